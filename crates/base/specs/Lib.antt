@@ -1,0 +1,6 @@
+pub mod Choice
+pub mod Tests
+pub mod Below
+pub mod Sums
+pub mod Lists
+pub mod Arrays

@@ -1,0 +1,93 @@
+-- Lists of messages and of places in a queue: weights, counts, membership, and a list without one element.
+use mathlib.Core.Path.{_≡_, refl, ap}
+use mathlib.Core.Logic.{_≢_, _⊎_, inl, inr}
+use mathlib.Core.Bool.{Bool, true, false}
+use mathlib.Core.List.{List, [], _∷_, _++_, List·Memᴰ, List·Memᴰ·head, List·Memᴰ·tail, List·Memᴰ·cases-cons, List·Memᴰ·append-cases, List·Memᴰ·eq-of-singleton}
+use Prim.Native.Nat.{ℕ, zero, suc, _+_, _≤_, _<_}
+use native.Mathlib.Nat.{not-suc-le-zero, le-of-suc-le-suc}
+use native.Mathlib.Numerals.{add-one}
+use native.Mathlib.Omega.{arith}
+use lib.ListN.{length, getD, take}
+use lib.Seq.{take-suc}
+use Rattle.base.specs.Sums.{one, one-le}
+
+module _ {A : Type 0} where
+  -- the total of a weight
+  unfoldable pub total : (A → ℕ) → List A → ℕ
+  total f [] = zero
+  total f (x ∷ xs) = f x + total f xs
+
+  pub total-append : (f : A → ℕ) (a b : List A) → total f (a ++ b) ≡ total f a + total f b
+  unfolding total
+  total-append f [] b = omega arith
+  total-append f (x ∷ a) b = omega (arith, total-append f a b)
+
+  pub total-snoc : (f : A → ℕ) (a : List A) (x : A) → total f (a ++ (x ∷ [])) ≡ total f a + f x
+  unfolding total
+  total-snoc f a x = omega (arith, total-append f a (x ∷ []))
+
+  -- as a loop makes it: the first i elements, and one more
+  pub total-none : (f : A → ℕ) (l : List A) → total f (take 0 l) ≡ 0
+  unfolding total
+  total-none f l = refl
+
+  pub total-more : (f : A → ℕ) (l : List A) (i : ℕ) (d : A) → i < length l → total f (take (i + 1) l) ≡ total f (take i l) + f (getD l i d)
+  total-more f l i d h = rw (add-one, take-suc l i d) (total-snoc f (take i l) (getD l i d))
+
+  -- how many elements pass a test
+  abbrev pub count : (A → Bool) → List A → ℕ
+  count p l = total (λ x. one (p x)) l
+
+  pub count-le : (p : A → Bool) (l : List A) → count p l ≤ length l
+  unfolding total
+  count-le p [] = omega arith
+  count-le p (x ∷ l) = omega (arith, count-le p l, one-le (p x))
+
+  -- without the element at i
+  unfoldable pub remove : ℕ → List A → List A
+  remove i [] = []
+  remove zero (x ∷ xs) = xs
+  remove (suc i) (x ∷ xs) = x ∷ remove i xs
+
+  pub total-remove : (f : A → ℕ) (l : List A) (i : ℕ) (d : A) → i < length l → total f (remove i l) + f (getD l i d) ≡ total f l
+  unfolding total remove
+  total-remove f [] i d h = absurd (not-suc-le-zero h)
+  total-remove f (x ∷ l) zero d h = omega arith
+  total-remove f (x ∷ l) (suc i) d h = omega (arith, total-remove f l i d (le-of-suc-le-suc h))
+
+  pub length-remove : (l : List A) (i : ℕ) → i < length l → length (remove i l) + 1 ≡ length l
+  unfolding remove
+  length-remove [] i h = absurd (not-suc-le-zero h)
+  length-remove (x ∷ l) zero h = omega arith
+  length-remove (x ∷ l) (suc i) h = omega (arith, length-remove l i (le-of-suc-le-suc h))
+
+  -- "for every message" is (m : A) → Mem m l → P m
+  abbrev pub Mem : A → List A → Type 0
+  Mem a l = List·Memᴰ a l
+
+  pub mem-remove : (i : ℕ) (l : List A) {a : A} → Mem a (remove i l) → Mem a l
+  unfolding remove
+  mem-remove i [] h = h
+  mem-remove zero (x ∷ l) h = List·Memᴰ·tail h
+  mem-remove (suc i) (x ∷ l) {a} h = go (mem-remove i l) (List·Memᴰ·cases-cons h)
+    where
+      go : (Mem a (remove i l) → Mem a l) → (a ≡ x) ⊎ Mem a (remove i l) → Mem a (x ∷ l)
+      go r (inl e) = List·Memᴰ·head e
+      go r (inr m) = List·Memᴰ·tail (r m)
+
+  pub mem-snoc : (l : List A) (x : A) {a : A} → Mem a (l ++ (x ∷ [])) → Mem a l ⊎ (a ≡ x)
+  mem-snoc l x {a} h = go (List·Memᴰ·append-cases l h)
+    where
+      go : Mem a l ⊎ Mem a (x ∷ []) → Mem a l ⊎ (a ≡ x)
+      go (inl m) = inl m
+      go (inr m) = inr (List·Memᴰ·eq-of-singleton m)
+
+  pub mem-at : (l : List A) (i : ℕ) (d : A) → i < length l → Mem (getD l i d) l
+  mem-at [] i d h = absurd (not-suc-le-zero h)
+  mem-at (x ∷ l) zero d h = List·Memᴰ·head refl
+  mem-at (x ∷ l) (suc i) d h = List·Memᴰ·tail (mem-at l i d (le-of-suc-le-suc h))
+
+  pub mem-total : (f : A → ℕ) {l : List A} {a : A} → Mem a l → f a ≤ total f l
+  unfolding total
+  mem-total f (List·Memᴰ·head {x = x} e) = omega (arith, ap f e)
+  mem-total f (List·Memᴰ·tail m) = omega (arith, mem-total f m)

@@ -1,0 +1,4 @@
+pub mod Limits
+pub mod Record
+pub mod Owned
+pub mod Rules

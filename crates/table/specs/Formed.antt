@@ -1,0 +1,159 @@
+-- "Well formed", clause by clause in the order of document 01.
+use Prim.Native.Nat.{ℕ, _+_}
+use mathlib.Core.Bool.{Bool, true, false, not, _&&_, _||_, Bool·beq}
+use lib.ListN.{getD}
+use lib.Dec.{ltb, leb, eqb}
+use Rattle.base.specs.Choice.{if_then_else_}
+use Rattle.base.specs.Tests.{_implies_}
+use Rattle.base.specs.Below.{allBelow}
+use Rattle.base.specs.Sums.{one, countBelow}
+use Rattle.base.specs.Lists.{count}
+use Rattle.modes.specs.Codes.{IR, R, U, IW, W}
+use Rattle.room.specs.declared.Room.{Room}
+use Rattle.room.specs.declared.Entry.{Entry}
+use Rattle.room.specs.Limits.{roomLimit, nobody}
+use Rattle.room.specs.Record.{entryAt}
+use Rattle.table.specs.declared.Table.{Table}
+use Rattle.table.specs.declared.Wire.{Wire}
+use Rattle.table.specs.declared.Queued.{Queued}
+use Rattle.table.specs.declared.Message.{Message}
+use Rattle.table.specs.declared.Message.the-variants as msg
+use Rattle.table.specs.Limits.{queueLimit, wireLimit}
+use Rattle.table.specs.Tables.{noWire, noQueued, roomAt, queueOf, messagesOf}
+
+-- "n, codes, counts and room numbers in range": a code, and a code that is not none
+abbrev pub isCode : ℕ → Bool
+isCode m = leb m W
+
+abbrev pub isMode : ℕ → Bool
+isMode m = leb IR m && leb m W
+
+unfoldable pub sizesFit : ℕ → ℕ → ℕ → Bool
+sizesFit n queued count = leb 1 n && leb n roomLimit && leb queued queueLimit && leb count wireLimit
+
+-- "no entry for oneself"; "an entry of mode none has link number zero"; "entries for [rooms n and above] are all none or zero"
+unfoldable pub entryFine : ℕ → ℕ → ℕ → Entry → Bool
+entryFine n c j e =
+    isCode (e .mode)
+    && (eqb (e .mode) 0 implies eqb (e .link) 0)
+    && ((leb n j || eqb j c) implies eqb (e .mode) 0)
+
+-- the record of room c of n
+unfoldable pub roomFine : ℕ → ℕ → Room → Bool
+roomFine n c r =
+    isCode (r .held)
+    && isCode (r .wanted)
+    && isCode (r .credit)
+    && ltb (r .toward) n
+    && (eqb (r .lender) nobody || ltb (r .lender) n)
+    -- "toward is oneself exactly for the room with the token"
+    && Bool·beq (eqb (r .toward) c) (r .token)
+    -- "no lender is oneself"
+    && not (eqb (r .lender) c)
+    -- "and so has a room without a lender" link number zero
+    && (eqb (r .lender) nobody implies eqb (r .link) 0)
+    -- "lender is nobody exactly when credit is none"
+    && Bool·beq (eqb (r .lender) nobody) (eqb (r .credit) 0)
+    -- "the room with the token has no lender"
+    && (r .token implies eqb (r .lender) nobody)
+    -- "U and W are held only with the token"
+    && ((eqb (r .held) U || eqb (r .held) W) implies r .token)
+    -- "held and wanted together only as U and W (an upgrade)"
+    && (eqb (r .held) 0 || eqb (r .wanted) 0 || eqb (r .held) U && eqb (r .wanted) W)
+    && allBelow roomLimit (λ j. entryFine n c j (entryAt r j))
+
+-- "Records of rooms n and above .. are all none or zero"
+unfoldable pub isBlankEntry : Entry → Bool
+isBlankEntry e = eqb (e .mode) 0 && eqb (e .link) 0
+
+unfoldable pub isBlankRoom : Room → Bool
+isBlankRoom r =
+    eqb (r .held) 0 && eqb (r .wanted) 0 && not (r .token) && eqb (r .toward) 0 && eqb (r .lender) nobody && eqb (r .credit) 0
+    && eqb (r .link) 0 && eqb (r .counter) 0 && allBelow roomLimit (λ j. isBlankEntry (entryAt r j))
+
+-- the mode that a waiting room without an upgrade waits for; none for any other
+unfoldable pub due : Room → ℕ
+due r = if eqb (r .held) 0 then r .wanted else 0
+
+-- a place of the queue that is in use: it names a waiting room with its mode
+unfoldable pub queuedFine : Table → Queued → Bool
+queuedFine t q = ltb (q .room) (t .n) && isMode (q .mode) && eqb (due (roomAt t (q .room))) (q .mode)
+
+unfoldable pub isBlankQueued : Queued → Bool
+isBlankQueued q = eqb (q .room) 0 && eqb (q .mode) 0
+
+-- "GRANT modes only IR, R, IW, other message modes not none except the remaining mode and REDUCE"
+unfoldable pub messageFine : ℕ → Message → Bool
+messageFine n msg.Nothing = false
+messageFine n (msg.Request o m idle) = ltb o n && isMode m
+messageFine n (msg.Grant m l) = eqb m IR || eqb m R || eqb m IW
+messageFine n (msg.Token m rest l) = isMode m && isCode rest
+messageFine n (msg.Reduce l m) = isCode m
+
+-- a REQUEST names its origin, a GRANT or a TOKEN its receiver: a waiting room, with its mode;
+-- "the room with the token has .. no GRANT under way to it"
+unfoldable pub namesRightly : Table → ℕ → Message → Bool
+namesRightly t to msg.Nothing = true
+namesRightly t to (msg.Request o m idle) = eqb (due (roomAt t o)) m
+namesRightly t to (msg.Grant m l) = eqb (due (roomAt t to)) m && not (roomAt t to .token)
+namesRightly t to (msg.Token m rest l) = eqb (due (roomAt t to)) m
+namesRightly t to (msg.Reduce l m) = true
+
+-- a message that is in use; "a sender is never the receiver"
+unfoldable pub wireFine : Table → Wire → Bool
+wireFine t w =
+    ltb (w .«from») (t .n) && ltb (w .to) (t .n) && not (eqb (w .«from») (w .to)) && messageFine (t .n) (w .message)
+    && namesRightly t (w .to) (w .message)
+
+unfoldable pub isNothing : Message → Bool
+isNothing msg.Nothing = true
+isNothing (msg.Request o m idle) = false
+isNothing (msg.Grant m l) = false
+isNothing (msg.Token m rest l) = false
+isNothing (msg.Reduce l m) = false
+
+unfoldable pub isBlankWire : Wire → Bool
+isBlankWire w = eqb (w .«from») 0 && eqb (w .to) 0 && isNothing (w .message)
+
+-- "exactly one token, with a room or in a TOKEN message"
+unfoldable pub isToken : Message → Bool
+isToken msg.Nothing = false
+isToken (msg.Request o m idle) = false
+isToken (msg.Grant m l) = false
+isToken (msg.Token m rest l) = true
+isToken (msg.Reduce l m) = false
+
+unfoldable pub tokens : Table → ℕ
+tokens t = countBelow (t .n) (λ c. roomAt t c .token) + count (λ w. isToken (w .message)) (messagesOf t)
+
+-- "each waiting room without an upgrade is named .. by exactly one of: queue, a REQUEST it began, a GRANT or TOKEN to it; none of these names any other room"
+unfoldable pub isNamedBy : ℕ → Wire → Bool
+isNamedBy c w = namedIn (w .message)
+  where
+    namedIn : Message → Bool
+    namedIn msg.Nothing = false
+    namedIn (msg.Request o m idle) = eqb o c
+    namedIn (msg.Grant m l) = eqb (w .to) c
+    namedIn (msg.Token m rest l) = eqb (w .to) c
+    namedIn (msg.Reduce l m) = false
+
+unfoldable pub names : Table → ℕ → ℕ
+names t c = count (λ q. eqb (q .room) c) (queueOf t) + count (isNamedBy c) (messagesOf t)
+
+-- each place of the rooms, the queue and the wires: as it should be where it is in use, else blank
+unfoldable pub roomsFine : Table → Bool
+roomsFine t = allBelow roomLimit (λ c. if ltb c (t .n) then roomFine (t .n) c (roomAt t c) else isBlankRoom (roomAt t c))
+
+unfoldable pub queueFine : Table → Bool
+queueFine t =
+    allBelow queueLimit (λ i. if ltb i (t .queued) then queuedFine t (getD (t .queue) i noQueued) else isBlankQueued (getD (t .queue) i noQueued))
+
+unfoldable pub wiresFine : Table → Bool
+wiresFine t =
+    allBelow wireLimit (λ i. if ltb i (t .count) then wireFine t (getD (t .wires) i noWire) else isBlankWire (getD (t .wires) i noWire))
+
+unfoldable pub namesFine : Table → Bool
+namesFine t = allBelow (t .n) (λ c. eqb (names t c) (one (ltb 0 (due (roomAt t c)))))
+
+unfoldable pub wellFormed : Table → Bool
+wellFormed t = sizesFit (t .n) (t .queued) (t .count) && roomsFine t && queueFine t && wiresFine t && eqb (tokens t) 1 && namesFine t

@@ -1,0 +1,94 @@
+// The table by value: rooms, queue and messages; the fresh table; the search for the oldest message; the test of well-formedness.
+ghost use mathlib.Core.Path.{_≡_};
+ghost use Rattle.table.specs.Tables.{freshOf};
+ghost use Rattle.table.specs.Oldest.{oldestOf};
+
+use room::Room;
+use room::ROOMS;
+
+// The places of the queue.
+pub const QUEUE: usize = 16;
+// The messages that a table can have on its wires.
+pub const WIRES: usize = 256;
+
+// What a wire carries. Nothing stands on a wire that is not in use.
+pub enum Message {
+    Nothing,
+    Request { origin: u8, mode: u8, idle: bool },
+    Grant { mode: u8, link: u32 },
+    Token { mode: u8, rest: u8, link: u32 },
+    Reduce { link: u32, mode: u8 },
+}
+
+pub struct Wire {
+    pub from: u8,
+    pub to: u8,
+    pub message: Message,
+}
+
+// A room that waits in the queue, with its wanted mode.
+pub struct Queued {
+    pub room: u8,
+    pub mode: u8,
+}
+
+pub struct Table {
+    pub n: u8,
+    pub rooms: [Room; ROOMS],
+    pub queue: [Queued; QUEUE],
+    pub queued: usize,
+    pub wires: [Wire; WIRES],
+    pub count: usize,
+}
+
+// What the search for a message answers.
+pub enum Found {
+    At { place: usize, message: Message },
+    Nothing,
+}
+
+// A number given back, and the table after it.
+pub struct Answer {
+    pub number: u8,
+    pub table: Table,
+}
+
+// A fresh table of n rooms.
+pub fn fresh(n: u8) -> Answer
+    ensures { λ r. ⌜ r ≡ freshOf n ⌝ }
+{
+    let blank = Room::blank();
+    let mut rooms = [blank; ROOMS];
+    let nothing = Wire { from: 0, to: 0, message: Message::Nothing };
+    let wires = [nothing; WIRES];
+    let queue = [Queued { room: 0, mode: 0 }; QUEUE];
+    match n {
+        1..=16 => {
+            rooms[0].token = true;
+            Answer { number: 0, table: Table { n: n, rooms: rooms, queue: queue, queued: 0, wires: wires, count: 0 } }
+        }
+        _ => Answer { number: 3, table: Table { n: 0, rooms: rooms, queue: queue, queued: 0, wires: wires, count: 0 } },
+    }
+}
+
+// The oldest message from a to b, with its place, or nothing.
+pub fn oldest(t: Table, a: u8, b: u8) -> Found
+    ensures { λ r. ⌜ r ≡ oldestOf t a b ⌝ }
+{
+    let count = t.count;
+    let mut i: usize = 0;
+    while i < WIRES {
+        if i >= count {
+            return Found::Nothing;
+        }
+        let w = t.wires[i];
+        if w.from == a {
+            if w.to == b {
+                let message = w.message;
+                return Found::At { place: i, message: message };
+            }
+        }
+        i += 1;
+    }
+    Found::Nothing
+}
