@@ -4,7 +4,7 @@ use mathlib.Core.Bool.{Bool, false, _||_}
 use mathlib.Core.List.{List, [], _∷_, _++_}
 use Rattle.room.specs.declared.Room.{Room}
 use Rattle.room.specs.declared.Send.{Send}
-use Rattle.room.specs.declared.Send.the-variants as send
+use Rattle.room.specs.declared.Send.the-variants as out
 use Rattle.room.specs.declared.Changed.{Changed}
 use Rattle.table.specs.declared.Table.{Table}
 use Rattle.table.specs.declared.Wire.{Wire}
@@ -51,8 +51,8 @@ join w y m = withQueue w (w .queue ++ (record { room = y; mode = m } ∷ []))
 
 -- what a changed record sends, as a message
 unfoldable pub sendOut : Work → Send → Work
-sendOut w send.Nothing = w
-sendOut w (send.Reduce to l m) = Rattle.rules.specs.Work.send w to (msg.Reduce l m)
+sendOut w out.Nothing = w
+sendOut w (out.Reduce to l m) = send w to (msg.Reduce l m)
 
 -- a record that has changed, and what it sends
 abbrev pub change : Work → Changed → Work

@@ -1,7 +1,7 @@
 -- "Well formed", clause by clause in the order of document 01.
 use Prim.Native.Nat.{ℕ, _+_}
 use mathlib.Core.Bool.{Bool, true, false, not, _&&_, _||_, Bool·beq}
-use lib.ListN.{getD}
+use mathlib.Core.List.{List}
 use lib.Dec.{ltb, leb, eqb}
 use Rattle.base.specs.Choice.{if_then_else_}
 use Rattle.base.specs.Tests.{_implies_}
@@ -19,7 +19,7 @@ use Rattle.table.specs.declared.Queued.{Queued}
 use Rattle.table.specs.declared.Message.{Message}
 use Rattle.table.specs.declared.Message.the-variants as msg
 use Rattle.table.specs.Limits.{queueLimit, wireLimit}
-use Rattle.table.specs.Tables.{noWire, noQueued, roomAt, queueOf, messagesOf}
+use Rattle.table.specs.Tables.{roomAt, queuedAt, wireAt, queueOf, messagesOf}
 
 -- "n, codes, counts and room numbers in range": a code, and a code that is not none
 abbrev pub isCode : ℕ → Bool
@@ -75,9 +75,11 @@ isBlankRoom r =
 unfoldable pub due : Room → ℕ
 due r = if eqb (r .held) 0 then r .wanted else 0
 
+-- Below, `rooms` gives each room's record.
+
 -- a place of the queue that is in use: it names a waiting room with its mode
-unfoldable pub queuedFine : Table → Queued → Bool
-queuedFine t q = ltb (q .room) (t .n) && isMode (q .mode) && eqb (due (roomAt t (q .room))) (q .mode)
+unfoldable pub queuedFine : ℕ → (ℕ → Room) → Queued → Bool
+queuedFine n rooms q = ltb (q .room) n && isMode (q .mode) && eqb (due (rooms (q .room))) (q .mode)
 
 unfoldable pub isBlankQueued : Queued → Bool
 isBlankQueued q = eqb (q .room) 0 && eqb (q .mode) 0
@@ -92,18 +94,17 @@ messageFine n (msg.Reduce l m) = isCode m
 
 -- a REQUEST names its origin, a GRANT or a TOKEN its receiver: a waiting room, with its mode;
 -- "the room with the token has .. no GRANT under way to it"
-unfoldable pub namesRightly : Table → ℕ → Message → Bool
-namesRightly t to msg.Nothing = true
-namesRightly t to (msg.Request o m idle) = eqb (due (roomAt t o)) m
-namesRightly t to (msg.Grant m l) = eqb (due (roomAt t to)) m && not (roomAt t to .token)
-namesRightly t to (msg.Token m rest l) = eqb (due (roomAt t to)) m
-namesRightly t to (msg.Reduce l m) = true
+unfoldable pub namesRightly : (ℕ → Room) → ℕ → Message → Bool
+namesRightly rooms to msg.Nothing = true
+namesRightly rooms to (msg.Request o m idle) = eqb (due (rooms o)) m
+namesRightly rooms to (msg.Grant m l) = eqb (due (rooms to)) m && not (rooms to .token)
+namesRightly rooms to (msg.Token m rest l) = eqb (due (rooms to)) m
+namesRightly rooms to (msg.Reduce l m) = true
 
 -- a message that is in use; "a sender is never the receiver"
-unfoldable pub wireFine : Table → Wire → Bool
-wireFine t w =
-    ltb (w .«from») (t .n) && ltb (w .to) (t .n) && not (eqb (w .«from») (w .to)) && messageFine (t .n) (w .message)
-    && namesRightly t (w .to) (w .message)
+unfoldable pub wireFine : ℕ → (ℕ → Room) → Wire → Bool
+wireFine n rooms w =
+    ltb (w .«from») n && ltb (w .to) n && not (eqb (w .«from») (w .to)) && messageFine n (w .message) && namesRightly rooms (w .to) (w .message)
 
 unfoldable pub isNothing : Message → Bool
 isNothing msg.Nothing = true
@@ -123,37 +124,34 @@ isToken (msg.Grant m l) = false
 isToken (msg.Token m rest l) = true
 isToken (msg.Reduce l m) = false
 
-unfoldable pub tokens : Table → ℕ
-tokens t = countBelow (t .n) (λ c. roomAt t c .token) + count (λ w. isToken (w .message)) (messagesOf t)
+unfoldable pub tokens : ℕ → (ℕ → Room) → List Wire → ℕ
+tokens n rooms messages = countBelow n (λ c. rooms c .token) + count (λ w. isToken (w .message)) messages
 
 -- "each waiting room without an upgrade is named .. by exactly one of: queue, a REQUEST it began, a GRANT or TOKEN to it; none of these names any other room"
-unfoldable pub isNamedBy : ℕ → Wire → Bool
-isNamedBy c w = namedIn (w .message)
-  where
-    namedIn : Message → Bool
-    namedIn msg.Nothing = false
-    namedIn (msg.Request o m idle) = eqb o c
-    namedIn (msg.Grant m l) = eqb (w .to) c
-    namedIn (msg.Token m rest l) = eqb (w .to) c
-    namedIn (msg.Reduce l m) = false
+unfoldable pub isNamedIn : ℕ → ℕ → Message → Bool
+isNamedIn c to msg.Nothing = false
+isNamedIn c to (msg.Request o m idle) = eqb o c
+isNamedIn c to (msg.Grant m l) = eqb to c
+isNamedIn c to (msg.Token m rest l) = eqb to c
+isNamedIn c to (msg.Reduce l m) = false
 
-unfoldable pub names : Table → ℕ → ℕ
-names t c = count (λ q. eqb (q .room) c) (queueOf t) + count (isNamedBy c) (messagesOf t)
+unfoldable pub names : List Queued → List Wire → ℕ → ℕ
+names queue messages c = count (λ q. eqb (q .room) c) queue + count (λ w. isNamedIn c (w .to) (w .message)) messages
 
 -- each place of the rooms, the queue and the wires: as it should be where it is in use, else blank
 unfoldable pub roomsFine : Table → Bool
 roomsFine t = allBelow roomLimit (λ c. if ltb c (t .n) then roomFine (t .n) c (roomAt t c) else isBlankRoom (roomAt t c))
 
 unfoldable pub queueFine : Table → Bool
-queueFine t =
-    allBelow queueLimit (λ i. if ltb i (t .queued) then queuedFine t (getD (t .queue) i noQueued) else isBlankQueued (getD (t .queue) i noQueued))
+queueFine t = allBelow queueLimit (λ i. if ltb i (t .queued) then queuedFine (t .n) (roomAt t) (queuedAt t i) else isBlankQueued (queuedAt t i))
 
 unfoldable pub wiresFine : Table → Bool
-wiresFine t =
-    allBelow wireLimit (λ i. if ltb i (t .count) then wireFine t (getD (t .wires) i noWire) else isBlankWire (getD (t .wires) i noWire))
+wiresFine t = allBelow wireLimit (λ i. if ltb i (t .count) then wireFine (t .n) (roomAt t) (wireAt t i) else isBlankWire (wireAt t i))
 
 unfoldable pub namesFine : Table → Bool
-namesFine t = allBelow (t .n) (λ c. eqb (names t c) (one (ltb 0 (due (roomAt t c)))))
+namesFine t = allBelow (t .n) (λ c. eqb (names (queueOf t) (messagesOf t) c) (one (ltb 0 (due (roomAt t c)))))
 
 unfoldable pub wellFormed : Table → Bool
-wellFormed t = sizesFit (t .n) (t .queued) (t .count) && roomsFine t && queueFine t && wiresFine t && eqb (tokens t) 1 && namesFine t
+wellFormed t =
+    sizesFit (t .n) (t .queued) (t .count) && roomsFine t && queueFine t && wiresFine t && eqb (tokens (t .n) (roomAt t) (messagesOf t)) 1
+    && namesFine t

@@ -25,6 +25,12 @@ noQueued = record { room = 0; mode = 0 }
 abbrev pub roomAt : Table → ℕ → Room
 roomAt t c = getD (t .rooms) c noRoom
 
+abbrev pub queuedAt : Table → ℕ → Queued
+queuedAt t i = getD (t .queue) i noQueued
+
+abbrev pub wireAt : Table → ℕ → Wire
+wireAt t i = getD (t .wires) i noWire
+
 -- "The table has one queue, which travels with the token, of rooms with their wanted modes"
 abbrev pub queueOf : Table → List Queued
 queueOf t = take (t .queued) (t .queue)
