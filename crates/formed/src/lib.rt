@@ -1,0 +1,1 @@
+// The test of well-formedness, proved to be the definition.

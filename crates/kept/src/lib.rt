@@ -1,0 +1,1 @@
+// An accepted step keeps well-formedness: all of it is in specs/.
