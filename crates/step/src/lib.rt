@@ -1,1 +1,3 @@
 // The step.
+mod acts;
+mod desk;

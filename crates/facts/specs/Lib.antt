@@ -1,0 +1,8 @@
+pub mod Extra
+pub mod Places
+pub mod Shapes
+pub mod Rooms
+pub mod Moments
+pub mod Blank
+pub mod Whole
+pub mod Names

@@ -1,0 +1,4 @@
+pub mod Known
+pub mod Desks
+pub mod Turns
+pub mod Actions
