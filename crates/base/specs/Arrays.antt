@@ -1,10 +1,11 @@
 -- A list kept in an array with a count in use: the places past it have one filler.
-use mathlib.Core.Path.{_≡_}
-use mathlib.Core.List.{List, _++_}
-use Prim.Native.Nat.{ℕ, _+_, _-_, _≤_, _<_}
+use mathlib.Core.Path.{_≡_, sym, _∙_, ap}
+use mathlib.Core.List.{List, [], _∷_, _++_, append-assoc}
+use Prim.Native.Nat.{ℕ, suc, _+_, _-_, _≤_, _<_}
+use native.Mathlib.Numerals.{add-one}
 use native.Mathlib.Omega.{arith}
-use lib.ListN.{length, getD, take, replicate, length-append, length-replicate, getD-replicate, List·getD-append, List·getD-eq-default}
-use lib.Seq.{take-at, getD-append-add}
+use lib.ListN.{length, getD, set, take, replicate, length-append, length-replicate, getD-replicate, List·getD-append, List·getD-eq-default}
+use lib.Seq.{take-at, length-take-le, set-append-seam, take-suc-set}
 
 module _ {A : Type 0} where
   -- a list laid into an array of k places
@@ -26,3 +27,25 @@ module _ {A : Type 0} where
     pub padded-low : (i : ℕ) → i < length l → getD (padded k d l) i d ≡ getD l i d
     unfolding padded
     padded-low i h = List·getD-append l (replicate (k - length l) d) d i h
+
+    -- one more element, stored behind those in use
+    pub padded-snoc : (x : A) → length l < k → set (padded k d l) (length l) x ≡ padded k d (l ++ (x ∷ []))
+    unfolding padded
+    padded-snoc x h =
+        let more : k - length l ≡ suc (k - suc (length l)) = omega arith in
+        let next : length (l ++ (x ∷ [])) ≡ suc (length l) = simp length-append (omega arith) in
+        ap (λ (j : ℕ). set (l ++ replicate j d) (length l) x) more ∙ set-append-seam l d (replicate (k - suc (length l)) d) x
+        ∙ rw next (simp append-assoc)
+
+  -- the same, said of an array whose places past n are filler
+  pub padded-set : (k : ℕ) (d : A) (xs : List A) (n : ℕ) (x : A) → n < length xs → n < k → xs ≡ padded k d (take n xs)
+      → set xs n x ≡ padded k d (take (n + 1) (set xs n x))
+  padded-set k d xs n x h low e =
+      let kept : length (take n xs) ≡ n = length-take-le n xs (omega arith) in
+      ap (λ (l : List A). set l n x) e ∙ ap (λ (j : ℕ). set (padded k d (take n xs)) j x) (sym kept)
+      ∙ padded-snoc k d (take n xs) x (omega arith) ∙ ap (padded k d) (rw add-one (sym (take-suc-set xs n x h)))
+
+  -- an array that a list was laid into has room for it
+  pub padded-fits : (k : ℕ) (d : A) (l : List A) → length (padded k d l) ≡ k → length l ≤ k
+  unfolding padded
+  padded-fits k d l e = omega (arith, simp (length-append, length-replicate) at e)

@@ -1,3 +1,1 @@
 // The step.
-mod acts;
-mod desk;

@@ -1,0 +1,5 @@
+pub mod Known
+pub mod Desks
+pub mod Turns
+pub mod Actions
+pub mod Laying

@@ -1,0 +1,206 @@
+// What one room does in a step, on a desk of its own: its record, the queue, and the messages that it sends.
+// The table is written only once the step is known to be made.
+ghost use mathlib.Core.Path.{_≡_};
+ghost use mathlib.Core.Bool.{_||_};
+ghost use Prim.Native.Nat.{_<_, _≤_};
+ghost use Rattle.rules.specs.Rules as rules;
+ghost use Rattle.rules.specs.Work as work;
+ghost use Rattle.act.specs.Desk.{workOf, Stays, Joins, Sends, Ends, Ready, Turns};
+
+use room::Changed;
+use room::Room;
+use room::Send;
+use table::Message;
+use table::Queued;
+use table::Wire;
+use table::QUEUE;
+
+// The places of a desk's queue: a room may join a full one.
+pub const PLACES: usize = QUEUE + 1;
+// The messages that one step can send: one for each place, and two.
+pub const OUTBOX: usize = PLACES + 2;
+
+// The queue's places from first to last are still in it.
+pub struct Desk {
+    pub me: u8,
+    pub room: Room,
+    pub queue: [Queued; PLACES],
+    pub first: usize,
+    pub last: usize,
+    pub out: [Wire; OUTBOX],
+    pub sent: usize,
+    pub worn: bool,
+}
+
+// A desk after one turn of serving, and whether another may follow.
+pub struct Turned {
+    pub desk: Desk,
+    pub again: bool,
+}
+
+// A message to room y, after those sent already.
+pub fn post(d: Desk, y: u8, message: Message) -> Desk
+    requires { ⌜ d .sent < 19 ⌝ }
+    ensures { λ r. ⌜ Sends d r (work.send (workOf d) y message) ⌝ }
+{
+    let at = d.sent;
+    let mut e = d;
+    e.out[at] = Wire { from: d.me, to: y, message: message };
+    e.sent = at + 1;
+    e
+}
+
+// Room y joins the end of the queue.
+pub fn join(d: Desk, y: u8, m: u8) -> Desk
+    requires { ⌜ (d .first ≤ d .last) × (d .last < 17) ⌝ }
+    ensures { λ r. ⌜ Joins d r (work.join (workOf d) y m) ⌝ }
+{
+    let at = d.last;
+    let mut e = d;
+    e.queue[at] = Queued { room: y, mode: m };
+    e.last = at + 1;
+    e
+}
+
+// The changed record, and what it sends.
+pub fn change(d: Desk, c: Changed) -> Desk
+    requires { ⌜ d .sent < 19 ⌝ }
+    ensures { λ r. ⌜ Sends d r (work.change (workOf d) c) ⌝ }
+{
+    let room = c.room;
+    let mut e = d;
+    e.room = room;
+    let send = c.send;
+    match send {
+        Send::Nothing => e,
+        Send::Reduce { to, link, mode } => post(e, to, Message::Reduce { link: link, mode: mode }),
+    }
+}
+
+// The room holds m, and wants nothing.
+pub fn hold(d: Desk, m: u8) -> Desk
+    ensures { λ r. ⌜ Stays d r (rules.hold (workOf d) m) ⌝ }
+{
+    let mut e = d;
+    e.room.held = m;
+    e.room.wanted = 0;
+    e
+}
+
+// The room wants m.
+pub fn want(d: Desk, m: u8) -> Desk
+    ensures { λ r. ⌜ Stays d r (rules.want (workOf d) m) ⌝ }
+{
+    let mut e = d;
+    e.room.wanted = m;
+    e
+}
+
+// Whether one of two is so.
+fn either(a: bool, b: bool) -> bool
+    ensures { λ r. ⌜ r ≡ (a || b) ⌝ }
+{
+    if a { true } else { b }
+}
+
+// Lend m to y.
+pub fn lend(d: Desk, y: u8, m: u8) -> Desk
+    requires { ⌜ d .sent < 19 ⌝ }
+    ensures { λ r. ⌜ Sends d r (rules.lend (workOf d) y m) ⌝ }
+{
+    let room = d.room;
+    let l = room.lend(y, m);
+    let after = l.room;
+    let mut e = d;
+    e.room = after;
+    e.worn = either(d.worn, l.worn);
+    post(e, y, Message::Grant { mode: m, link: l.link })
+}
+
+// Pass the token to y.
+fn pass(d: Desk, y: u8, m: u8) -> Desk
+    requires { ⌜ d .sent < 19 ⌝ }
+    ensures { λ r. ⌜ Sends d r (rules.pass (workOf d) y m) ⌝ }
+{
+    let room = d.room;
+    let p = room.pass(y);
+    let after = p.room;
+    let mut e = d;
+    e.room = after;
+    e.worn = either(d.worn, p.worn);
+    post(e, y, Message::Token { mode: m, rest: p.rest, link: p.link })
+}
+
+// Without the token: what is owed falls to what is owned.
+pub fn settle(d: Desk) -> Desk
+    requires { ⌜ d .sent < 19 ⌝ }
+    ensures { λ r. ⌜ Sends d r (rules.settle (workOf d)) ⌝ }
+{
+    let room = d.room;
+    change(d, room.settle())
+}
+
+// Whether an upgrade waits.
+fn upgrade_waits(room: Room) -> bool
+    ensures { λ r. ⌜ r ≡ rules.upgradeWaits room ⌝ }
+{
+    room.held == modes::U && room.wanted == modes::W
+}
+
+// A waiting upgrade with no entries becomes a held W.
+fn upgraded(d: Desk) -> Desk
+    ensures { λ r. ⌜ Stays d r (rules.upgraded (workOf d)) ⌝ }
+{
+    let room = d.room;
+    if !upgrade_waits(room) {
+        return d;
+    }
+    if !room.has_no_entries() {
+        return d;
+    }
+    hold(d, modes::W)
+}
+
+// One turn of serving: the head of the queue, if it can be taken off.
+fn turn(d: Desk) -> Turned
+    requires { ⌜ Ready d ⌝ }
+    ensures { λ r. ⌜ Turns d (r .again) (r .desk) ⌝ }
+{
+    let at = d.first;
+    if at >= d.last {
+        return Turned { desk: d, again: false };
+    }
+    let room = d.room;
+    if upgrade_waits(room) {
+        return Turned { desk: d, again: false };
+    }
+    let q = d.queue[at];
+    let own = room.owned();
+    if !modes::agree(own, q.mode) {
+        return Turned { desk: d, again: false };
+    }
+    let mut e = d;
+    e.first = at + 1;
+    if q.room == d.me {
+        return Turned { desk: hold(e, q.mode), again: true };
+    }
+    if modes::can_lend(own, q.mode) {
+        return Turned { desk: lend(e, q.room, q.mode), again: true };
+    }
+    Turned { desk: pass(e, q.room, q.mode), again: false }
+}
+
+// With the token: a waiting upgrade, then the queue.
+pub fn serve(d: Desk) -> Desk
+    requires { ⌜ Ready d ⌝ }
+    ensures { λ r. ⌜ Ends r (rules.serve (workOf d)) ⌝ }
+{
+    let mut e = upgraded(d);
+    let mut again = true;
+    while again {
+        let t = turn(e);
+        e = t.desk;
+        again = t.again;
+    }
+    e
+}

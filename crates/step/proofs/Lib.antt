@@ -1,4 +1,0 @@
-pub mod Known
-pub mod Desks
-pub mod Turns
-pub mod Actions
