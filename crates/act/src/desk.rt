@@ -13,12 +13,8 @@ use room::Send;
 use table::Message;
 use table::Queued;
 use table::Wire;
-use table::QUEUE;
-
-// The places of a desk's queue: a room may join a full one.
-pub const PLACES: usize = QUEUE + 1;
-// The messages that one step can send: one for each place, and two.
-pub const OUTBOX: usize = PLACES + 2;
+use crate::OUTBOX;
+use crate::PLACES;
 
 // The queue's places from first to last are still in it.
 pub struct Desk {

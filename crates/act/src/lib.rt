@@ -8,13 +8,16 @@ mod acts;
 mod desk;
 
 use desk::Desk;
-use desk::OUTBOX;
-use desk::PLACES;
 use room::Room;
 use table::Message;
 use table::Queued;
 use table::Wire;
 use table::QUEUE;
+
+// The places of a queue while a room acts: one may join a full one.
+pub const PLACES: usize = QUEUE + 1;
+// The messages that a room can send in one step: one for each place, and two.
+pub const OUTBOX: usize = PLACES + 2;
 
 // A room before it acts, and the queue.
 pub struct Start {

@@ -4,8 +4,8 @@ use mathlib.Core.List.{List, [], _∷_, _++_, append-assoc}
 use Prim.Native.Nat.{ℕ, suc, _+_, _-_, _≤_, _<_}
 use native.Mathlib.Numerals.{add-one}
 use native.Mathlib.Omega.{arith}
-use lib.ListN.{length, getD, set, take, replicate, length-append, length-replicate, getD-replicate, List·getD-append, List·getD-eq-default}
-use lib.Seq.{take-at, length-take-le, set-append-seam, take-suc-set}
+use lib.ListN.{length, getD, set, take, replicate, length-append, length-replicate, replicate-append-replicate, List·getD-append, List·getD-eq-default}
+use lib.Seq.{take-at, take-append-add, length-take-le, set-append-seam, take-suc-set}
 
 module _ {A : Type 0} where
   -- a list laid into an array of k places
@@ -49,3 +49,14 @@ module _ {A : Type 0} where
   pub padded-fits : (k : ℕ) (d : A) (l : List A) → length (padded k d l) ≡ k → length l ≤ k
   unfolding padded
   padded-fits k d l e = omega (arith, simp (length-append, length-replicate) at e)
+
+  -- an array of fewer places, where they are enough
+  pub padded-short : (k j : ℕ) (d : A) (l : List A) → length l ≤ k → k ≤ j → take k (padded j d l) ≡ padded k d l
+  unfolding padded
+  padded-short k j d l h m =
+      let all : k ≡ length l + (k - length l) = omega arith in
+      let parts : j - length l ≡ (k - length l) + (j - k) = omega arith in
+      ap (λ (n : ℕ). take n (l ++ replicate (j - length l) d)) all ∙ take-append-add l (replicate (j - length l) d) (k - length l)
+      ∙ ap (λ (n : ℕ). l ++ take (k - length l) (replicate n d)) parts
+      ∙ ap (λ (r : List A). l ++ take (k - length l) r) (sym (replicate-append-replicate (k - length l) (j - k) d))
+      ∙ ap (λ (r : List A). l ++ r) (take-at (replicate (k - length l) d) (replicate (j - k) d) (k - length l) (length-replicate (k - length l) d))

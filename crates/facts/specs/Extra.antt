@@ -1,9 +1,10 @@
 -- General laws that the facts need: tests joined in a row, arrays with a filler past the places in use, sums over lists.
 use mathlib.Core.Path.{_≡_, refl, sym, _∙_, ap}
-use mathlib.Core.Logic.{_⊎_, inl, inr}
+use mathlib.Core.Logic.{_≢_, _⊎_, inl, inr}
 use mathlib.Core.Bool.{Bool, true, _&&_}
 use mathlib.Core.List.{List, [], _∷_, List·Memᴰ·head, List·Memᴰ·tail, List·Memᴰ·not-nil, List·Memᴰ·cases-cons}
 use Prim.Native.Nat.{ℕ, zero, suc, _+_, _-_, _≤_, _<_}
+use native.Mathlib.Nat.{not-suc-le-zero}
 use native.Mathlib.Omega.{arith}
 use lib.Dec.{eqb}
 use lib.ListN.{length, getD, take, replicate}
@@ -11,7 +12,7 @@ use lib.Seq.{getD-take, getD-append-add, ext-getD, length-take-le}
 use borrow.Author.Tests.{eq-eqb, ne-eqb}
 use Rattle.base.specs.Choice.{if_then_else_, by-test}
 use Rattle.base.specs.Tests.{and-both}
-use Rattle.base.specs.Sums.{one, below?, sum, sum-add, sum-bound, sum-differ}
+use Rattle.base.specs.Sums.{one, same?, below?, sum, sum-add, sum-bound, sum-differ, sum-at}
 use Rattle.base.specs.Lists.{Mem, total}
 use Rattle.base.specs.Arrays.{padded, padded-low, padded-length}
 
@@ -110,3 +111,15 @@ sum-short n f c h low z = omega (
 
     bound : (i : ℕ) → i < n → (if eqb i c then 1 else f i) ≤ 1
     bound i l = by-test (λ (m : ℕ). m ≤ 1) (eqb i c) 1 (f i) (λ e. omega arith) (λ e. low i l)
+
+-- two terms are at most the sum
+pub sum-two : (n : ℕ) (f : ℕ → ℕ) (i j : ℕ) → i < n → j < n → i ≢ j → f i + f j ≤ sum n f
+unfolding sum
+sum-two zero f i j h k ne = absurd (not-suc-le-zero h)
+sum-two (suc n) f i j h k ne = go (same? n i) (same? n j) (λ p q. sum-two n f i j p q ne)
+  where
+    go : (n ≡ i) ⊎ (n ≢ i) → (n ≡ j) ⊎ (n ≢ j) → (i < n → j < n → f i + f j ≤ sum n f) → f i + f j ≤ f n + sum n f
+    go (inl p) (inl q) r = absurd (ne (sym p ∙ q))
+    go (inl p) (inr q) r = rw (← p) (omega (arith, sum-at n f j (omega arith)))
+    go (inr p) (inl q) r = rw (← q) (omega (arith, sum-at n f i (omega arith)))
+    go (inr p) (inr q) r = omega (arith, r (omega arith) (omega arith))

@@ -1,6 +1,6 @@
 -- What the test of one room's record says, clause by clause.
 use mathlib.Core.Path.{_≡_, refl, sym, _∙_}
-use mathlib.Core.Logic.{_≢_, ⊎-elim}
+use mathlib.Core.Logic.{_⊎_, _≢_, ⊎-elim}
 use mathlib.Core.Bool.{true, _&&_, _||_}
 use Prim.Native.Nat.{ℕ, _≤_, _<_}
 use lib.Dec.{ltb, leb, eqb}
@@ -84,7 +84,10 @@ module _ (n c j : ℕ) (e : Entry) where
   entry-test f =
       le-leb (e .mode) W (f .code)
       also given (e .mode) 0 (e .link) 0 (f .unlinked)
-      also implies-show (leb n j || eqb j c) (eqb (e .mode) 0) (λ p. eq-eqb _ _ (⊎-elim (λ l. f .outside (leb-true n j l)) (λ l. f .own (eqb-true j c l)) (or-use (leb n j) (eqb j c) p)))
+      also implies-show (leb n j || eqb j c) (eqb (e .mode) 0) (λ p. eq-eqb _ _ (nothing (or-use (leb n j) (eqb j c) p)))
+    where
+      nothing : (leb n j ≡ true) ⊎ (eqb j c ≡ true) → e .mode ≡ 0
+      nothing = ⊎-elim (λ l. f .outside (leb-true n j l)) (λ l. f .own (eqb-true j c l))
 
 module _ (n c : ℕ) (r : Room) where
   pub room-facts : roomFine n c r ≡ true → RoomFacts n c r
@@ -95,7 +98,7 @@ module _ (n c : ℕ) (r : Room) where
         wanted-code = leb-true _ _ (search (and-left, and-right) depth 25 fits 4000);
         credit-code = leb-true _ _ (search (and-left, and-right) depth 25 fits 4000);
         toward-low = ltb-true _ _ (search (and-left, and-right) depth 25 fits 4000);
-        lender-low = λ e. ⊎-elim (λ p. absurd (e (eqb-true _ _ p))) (λ p. ltb-true _ _ p) (or-use (eqb (r .lender) nobody) (ltb (r .lender) n) (search (and-left, and-right) depth 25 fits 4000));
+        lender-low = λ e. ⊎-elim (λ p. absurd (e (eqb-true _ _ p))) (λ p. ltb-true _ _ p) lender-in;
         toward-token = λ e. sym toward-is ∙ eq-eqb _ _ e;
         token-toward = λ e. eqb-true _ _ (toward-is ∙ e);
         lender-other = eqb-false _ _ (not-true _ (search (and-left, and-right) depth 25 fits 4000));
@@ -109,6 +112,9 @@ module _ (n c : ℕ) (r : Room) where
         entry = λ j l. entry-facts n c j (entryAt r j) (all-at roomLimit (λ j. entryFine n c j (entryAt r j)) (search (and-left, and-right) depth 25 fits 4000) j l);
       }
     where
+      lender-in : (eqb (r .lender) nobody ≡ true) ⊎ (ltb (r .lender) n ≡ true)
+      lender-in = or-use (eqb (r .lender) nobody) (ltb (r .lender) n) (search (and-left, and-right) depth 25 fits 4000)
+
       toward-is : eqb (r .toward) c ≡ r .token
       toward-is = same-use (eqb (r .toward) c) (r .token) (search (and-left, and-right) depth 25 fits 4000)
 

@@ -9,10 +9,13 @@ use Rattle.base.specs.Choice.{if_then_else_, by-test}
 use Rattle.base.specs.Tests.{and-left, and-right}
 use Rattle.base.specs.Below.{all-at, all-of}
 use Rattle.base.specs.Sums.{one}
+use Rattle.base.specs.Lists.{Mem}
 use Rattle.base.specs.Arrays.{padded}
 use Rattle.room.specs.Limits.{roomLimit}
 use Rattle.room.specs.Record.{blankRoom}
 use Rattle.table.specs.declared.Table.{Table}
+use Rattle.table.specs.declared.Wire.{Wire}
+use Rattle.table.specs.declared.Queued.{Queued}
 use Rattle.table.specs.Limits.{queueLimit, wireLimit}
 use Rattle.table.specs.Tables.{noWire, noQueued, roomAt, queueOf, messagesOf}
 use Rattle.table.specs.Formed.{sizesFit, roomFine, isBlankRoom, due, queuedFine, isBlankQueued, wireFine, isBlankWire, tokens, names, roomsFine, queueFine, wiresFine, namesFine, wellFormed}
@@ -48,8 +51,8 @@ module _ (t : Table) (s : Shaped t) where
         formed =
             record {
               room = λ c l. room-facts (t .n) c (roomAt t c) (rw (lt-ltb c (t .n) l) at (room c (omega (arith, low))));
-              queued = λ q m. queued-facts (t .n) (roomAt t) q (used-member queueLimit noQueued (t .queue) (t .queued) (queuedFine (t .n) (roomAt t)) isBlankQueued (s .queue) queued queue q m);
-              message = λ w m. message-facts (t .n) (roomAt t) w (used-member wireLimit noWire (t .wires) (t .count) (wireFine (t .n) (roomAt t)) isBlankWire (s .wires) count wires w m);
+              queued = λ q m. queued-facts (t .n) (roomAt t) q (each-queued q m);
+              message = λ w m. message-facts (t .n) (roomAt t) w (each-wire w m);
               token = eqb-true _ _ (search (and-left, and-right) depth 25 fits 4000);
               named = λ c l. eqb-true _ _ (all-at (t .n) (λ c. eqb (names (queueOf t) (messagesOf t) c) (one (ltb 0 (due (roomAt t c))))) named c l);
             };
@@ -68,13 +71,21 @@ module _ (t : Table) (s : Shaped t) where
       count = leb-true _ _ (search (and-left, and-right) depth 25 fits 4000)
 
       room : (c : ℕ) → c < roomLimit → (if ltb c (t .n) then roomFine (t .n) c (roomAt t c) else isBlankRoom (roomAt t c)) ≡ true
-      room c l = all-at roomLimit (λ c. if ltb c (t .n) then roomFine (t .n) c (roomAt t c) else isBlankRoom (roomAt t c)) (search (and-left, and-right) depth 25 fits 4000) c l
+      room =
+          all-at roomLimit (λ c. if ltb c (t .n) then roomFine (t .n) c (roomAt t c) else isBlankRoom (roomAt t c))
+          (search (and-left, and-right) depth 25 fits 4000)
 
       queue : places queueLimit noQueued (t .queue) (t .queued) (queuedFine (t .n) (roomAt t)) isBlankQueued ≡ true
       queue = search (and-left, and-right) depth 25 fits 4000
 
+      each-queued : (q : Queued) → Mem q (queueOf t) → queuedFine (t .n) (roomAt t) q ≡ true
+      each-queued = used-member queueLimit noQueued (t .queue) (t .queued) (queuedFine (t .n) (roomAt t)) isBlankQueued (s .queue) queued queue
+
       wires : places wireLimit noWire (t .wires) (t .count) (wireFine (t .n) (roomAt t)) isBlankWire ≡ true
       wires = search (and-left, and-right) depth 25 fits 4000
+
+      each-wire : (w : Wire) → Mem w (messagesOf t) → wireFine (t .n) (roomAt t) w ≡ true
+      each-wire = used-member wireLimit noWire (t .wires) (t .count) (wireFine (t .n) (roomAt t)) isBlankWire (s .wires) count wires
 
       named : namesFine t ≡ true
       named = search (and-left, and-right) depth 25 fits 4000

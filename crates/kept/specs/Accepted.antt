@@ -1,0 +1,63 @@
+-- What an accepted event has: none of the refusals applies.
+use mathlib.Core.Path.{_≡_, refl}
+use mathlib.Core.Logic.{_≢_}
+use mathlib.Core.Bool.{Bool, true, false, _&&_, _||_, true≢false}
+use mathlib.Core.List.{List, _∷_}
+use Prim.Native.Nat.{ℕ, _≤_, _<_}
+use native.Mathlib.Omega.{arith}
+use lib.Dec.{leb, eqb}
+use borrow.Author.Tests.{leb-true, leb-false, eqb-true, not-false}
+use Rattle.base.specs.Tests.{and-left, and-right}
+use Rattle.modes.specs.Codes.{IR, U, W}
+use Rattle.table.specs.declared.Table.{Table}
+use Rattle.table.specs.Tables.{roomAt}
+use Rattle.table.specs.Formed.{isMode}
+use Rattle.rules.specs.declared.Event.{Event}
+use Rattle.rules.specs.Events.{isAsk, isUpgrade, isHandBack, isDeliver}
+use Rattle.rules.specs.Refusals.{Row, row, first, refusals, refusal}
+
+-- the first number is 0 only where the row does not apply
+first-none : (k : ℕ) (b : Bool) (rows : List Row) → first (row k b ∷ rows) ≡ 0 → k ≢ 0 → (b ≡ false) × (first rows ≡ 0)
+unfolding first
+first-none k true rows h ne = absurd (ne h)
+first-none k false rows h ne = (refl, h)
+
+or-false-left : (p q : Bool) → (p || q) ≡ false → p ≡ false
+or-false-left true q h = h
+or-false-left false q h = refl
+
+or-false-right : (p q : Bool) → (p || q) ≡ false → q ≡ false
+or-false-right true q h = absurd (true≢false h)
+or-false-right false q h = h
+
+pub record Accepted (t : Table) (e : Event) : Type 0 where
+  -- 3 ROOM
+  pub low : e .room < t .n
+  -- 4 MODE
+  pub some : isAsk e ≡ true → IR ≤ e .mode
+  pub code : isAsk e ≡ true → e .mode ≤ W
+  -- 5 WAITING
+  pub idle : isDeliver e ≡ false → roomAt t (e .room) .wanted ≡ 0
+  -- 6 HELD
+  pub free : isAsk e ≡ true → roomAt t (e .room) .held ≡ 0
+  -- 7 NOT HELD
+  pub holds : isUpgrade e ≡ true → roomAt t (e .room) .held ≡ U
+
+pub accepted : (t : Table) (e : Event) → refusal t e ≡ 0 → Accepted t e
+unfolding refusal refusals
+accepted t e h =
+    let one = first-none 1 _ _ h (λ z. omega arith) in
+    let two = first-none 2 _ _ (one .1) (λ z. omega arith) in
+    let three = first-none 3 _ _ (two .1) (λ z. omega arith) in
+    let four = first-none 4 _ _ (three .1) (λ z. omega arith) in
+    let five = first-none 5 _ _ (four .1) (λ z. omega arith) in
+    let six = first-none 6 _ _ (five .1) (λ z. omega arith) in
+    let seven = first-none 7 _ _ (six .1) (λ z. omega arith) in
+    record {
+      low = leb-false _ _ (or-false-left (leb (t .n) (e .room)) _ (three .0));
+      some = λ a. leb-true _ _ (and-left _ _ (not-false (isMode (e .mode)) (rw a at (four .0))));
+      code = λ a. leb-true _ _ (and-right (leb IR (e .mode)) _ (not-false (isMode (e .mode)) (rw a at (four .0))));
+      idle = λ a. eqb-true _ _ (not-false _ (rw a at (five .0)));
+      free = λ a. eqb-true _ _ (not-false _ (rw a at (six .0)));
+      holds = λ a. eqb-true _ _ (not-false _ (rw a at (or-false-right (isHandBack e && eqb (roomAt t (e .room) .held) 0) _ (seven .0))));
+    }

@@ -1,0 +1,206 @@
+-- DELIVER keeps a moment whole: the message is off its wire, with what it names and the token that it carries in hand.
+use mathlib.Core.Path.{_≡_, refl, sym, _∙_, ap}
+use mathlib.Core.Logic.{_≢_, _⊎_, inl, inr, ⊎-elim}
+use mathlib.Core.Bool.{Bool, true, false, not, _&&_, _||_, false≢true}
+use mathlib.Core.List.{List, _++_}
+use Prim.Native.Nat.{ℕ, _≤_, _<_}
+use native.Mathlib.Omega.{arith}
+use lib.Dec.{ltb, leb, eqb}
+use lib.ListN.{length, set, length-set}
+use borrow.Author.Tests.{ltb-true, leb-true, eqb-true, eqb-false, eq-eqb, ne-eqb, not-true}
+use Rattle.base.specs.Choice.{by-test, split}
+use Rattle.base.specs.Tests.{and-left, and-right, or-use, clash}
+use Rattle.base.specs.Sums.{one, sum-at}
+use Rattle.modes.specs.Codes.{IR, R, U, IW, W}
+use Rattle.modes.specs.Modes.{isStronger, canLend}
+use Rattle.room.specs.declared.Room.{Room}
+use Rattle.room.specs.declared.Send.{Send}
+use Rattle.room.specs.declared.Send.the-variants as out
+use Rattle.room.specs.Limits.{roomLimit, nobody}
+use Rattle.room.specs.Record.{entryOf, entryAt, withModes, withToken, withDebt, setEntry}
+use Rattle.room.specs.Owned.{owned}
+use Rattle.room.specs.Rules.{lent, lentTo, leaving, granted, lifted, tokenedBy, tokened, reduced}
+use Rattle.table.specs.declared.Wire.{Wire}
+use Rattle.table.specs.declared.Message.{Message}
+use Rattle.table.specs.declared.Message.the-variants as msg
+use Rattle.table.specs.Formed.{due, isMode, messageFine, namesRightly, isToken, isNamedIn, tokens, names}
+use Rattle.rules.specs.Work.{Work, withRoom, send, join, sendOut}
+use Rattle.rules.specs.Rules.{lend, settle, serve, takeRequest, receive}
+use Rattle.facts.specs.Rooms.{RoomFacts}
+use Rattle.kept.specs.Changed.{changed-same}
+use Rattle.kept.specs.Moment.{Right, empty}
+use Rattle.kept.specs.Records.{modes-facts, counter-facts, free-facts, owing-facts, gained-facts, entry-set-facts}
+use Rattle.kept.specs.Acts.{At, Whole, now, only, own-room, own-names, set-alike, set-unnamed, put-joined}
+use Rattle.kept.specs.Sends.{put-request, put-leaving}
+use Rattle.kept.specs.Settle.{settle-kept}
+use Rattle.kept.specs.Loans.{lend-kept}
+use Rattle.kept.specs.Turns.{held-waits, waits-one}
+use Rattle.kept.specs.Serve.{serve-kept, settle-or-serve-kept}
+
+-- the modes of a GRANT: some mode, and neither U nor W
+grant-modes : (m : ℕ) → (eqb m IR || eqb m R || eqb m IW) ≡ true → (1 ≤ m) × (m ≤ W) × (m ≢ U) × (m ≢ W)
+grant-modes m h = go (or-use (eqb m IR || eqb m R) (eqb m IW) h)
+  where
+    is : (k : ℕ) → m ≡ k → (1 ≤ k) × (k ≤ W) × (k ≢ U) × (k ≢ W) → (1 ≤ m) × (m ≤ W) × (m ≢ U) × (m ≢ W)
+    is k e p = rw e p
+
+    go : ((eqb m IR || eqb m R) ≡ true) ⊎ (eqb m IW ≡ true) → (1 ≤ m) × (m ≤ W) × (m ≢ U) × (m ≢ W)
+    go (inl p) =
+        ⊎-elim (λ e. is IR (eqb-true m IR e) (omega arith, omega arith, λ k. omega arith, λ k. omega arith))
+        (λ e. is R (eqb-true m R e) (omega arith, omega arith, λ k. omega arith, λ k. omega arith)) (or-use (eqb m IR) (eqb m R) p)
+    go (inr e) = is IW (eqb-true m IW e) (omega arith, omega arith, λ k. omega arith, λ k. omega arith)
+
+-- what is sent leaves the record as it is
+sent-room : (w : Work) (s : Send) → sendOut w s .room ≡ w .room
+unfolding sendOut send
+sent-room w out.Nothing = refl
+sent-room w (out.Reduce y l m) = refl
+
+module _ (n : ℕ) (rooms : ℕ → Room) (kept : List Wire) (w : Work) (from : ℕ) where
+  -- the room that acts, as it is among the rooms now
+  own : now rooms w (w .me) ≡ w .room
+  own = changed-same rooms (w .me) (w .room)
+
+  -- the room waits for m, and its name is in hand: nothing else names it
+  unnamed : (m loose : ℕ) → 1 ≤ m → due (now rooms w (w .me)) ≡ m → At n rooms kept w (only (w .me)) loose
+      → names (w .queue) (kept ++ w .sent) (w .me) ≡ 0
+  unnamed m loose some waits a = omega (
+    arith,
+    own-names n rooms kept w (only (w .me)) loose a,
+    waits-one (w .room) m (ap due (sym own) ∙ waits) some,
+    ap one (eq-eqb (w .me) (w .me) refl),
+  )
+
+  -- a room that has got its mode is named no more
+  ended : (c : ℕ) → c < n → c ≢ w .me → 0 ≡ only (w .me) c
+  ended c l e = sym (ap one (ne-eqb (w .me) c (λ k. e (sym k))))
+
+  module _ (o m : ℕ) (idle : Bool) (low : o < n) (some : 1 ≤ m) (code : m ≤ W) (waits : due (now rooms w o) ≡ m)
+      (without : now rooms w o .token ≡ false) (a : At n rooms kept w (only o) 0) where
+    -- "REQUEST at the room with the token: it joins the end of the queue, then serve."
+    joined-kept : w .room .token ≡ true → Whole n rooms kept (serve (join w o m))
+    unfolding join
+    joined-kept with =
+        serve-kept n rooms kept (join w o m)
+        (put-joined n rooms kept w (only o) 0 a o m empty (record { low = low; some = some; code = code; waits = waits }) (λ c l. omega arith)) with
+
+    -- "if the origin owned nothing, isn't b, and owned of b can lend the mode, b lends, then settles"
+    lent-kept : w .room .token ≡ false → o ≢ w .me → canLend (owned (w .room)) m ≡ true → Whole n rooms kept (settle (lend w o m))
+    unfolding lend send lent lentTo
+    lent-kept none other can =
+        settle-kept n rooms kept (lend w o m) (lend-kept n rooms kept w o m low other can waits without a) none
+
+    -- "else b sends it on, unchanged, to toward"
+    on-kept : w .room .token ≡ false → Whole n rooms kept (send w (w .room .toward) (msg.Request o m idle))
+    on-kept none =
+        let facts = own-room n rooms kept w (only o) 0 a in
+        put-request n rooms kept w (w .room .toward) (facts .toward-low) (λ k. clash (facts .toward-token k) none) o m idle low some code waits without a
+
+    request-kept : Whole n rooms kept (takeRequest w o m idle)
+    unfolding takeRequest
+    request-kept =
+        by-test (Whole n rooms kept) (w .room .token) _ _ joined-kept λ none.
+        by-test (Whole n rooms kept) (idle && not (eqb o (w .me)) && canLend (owned (w .room)) m) _ _
+        (λ e. lent-kept none (eqb-false _ _ (not-true _ (and-right idle _ (and-left _ _ e)))) (and-right (idle && not (eqb o (w .me))) _ e))
+        (λ e. on-kept none)
+
+  module _ (from-low : from < n) (apart : from ≢ w .me) where
+    -- "GRANT: .. Then lender a, the new link number, credit and held the mode, wanted none."
+    grant-kept : (m l : ℕ) → (eqb m IR || eqb m R || eqb m IW) ≡ true → due (now rooms w (w .me)) ≡ m → now rooms w (w .me) .token ≡ false
+        → At n rooms kept w (only (w .me)) 0 → Whole n rooms kept (receive w from (msg.Grant m l))
+    unfolding receive granted
+    grant-kept m l fine waits none a =
+        put-leaving n rooms kept (withRoom w lending) (w .room) from (facts .lender-low) (facts .lender-other)
+        (set-unnamed n rooms kept w (only (w .me)) 0 a lending
+        (owing-facts n (w .me) (withModes (w .room) m 0)
+        (modes-facts n (w .me) (w .room) facts m 0 (modes .1) (omega arith) (λ e. absurd (modes .2 e)) (λ e. absurd (modes .3 e)) (λ p z. absurd (z refl)))
+        from m l (a .small) from-low apart (modes .0) (modes .1) (ap (λ (r : Room). r .token) (sym own) ∙ none))
+        (a .long) (unnamed m 0 (modes .0) waits a) empty 0 ended (sym (ap (λ (d : ℕ). one (ltb 0 d)) (held-waits (withDebt (w .room) from m l) m (modes .0)))) refl)
+      where
+        facts : RoomFacts n (w .me) (w .room)
+        facts = own-room n rooms kept w (only (w .me)) 0 a
+
+        modes : (1 ≤ m) × (m ≤ W) × (m ≢ U) × (m ≢ W)
+        modes = grant-modes m fine
+
+        lending : Room
+        lending = withDebt (withModes (w .room) m 0) from m l
+
+    -- while the token is in hand no room has it
+    tokenless : At n rooms kept w (only (w .me)) 1 → w .room .token ≡ false
+    unfolding tokens
+    tokenless a =
+        split (w .room .token)
+        (λ e. absurd (omega (arith, a .moment .token, sum-at n (λ c. one (now rooms w c .token)) (w .me) (a .low), ap (λ (r : Room). one (r .token)) own, ap one e)))
+        (λ e. e)
+
+    -- "TOKEN: .. then no lender, credit none, toward itself, held the mode, wanted none; its entry for a is the remaining mode .. then serve"
+    token-kept : (m rest l : ℕ) → 1 ≤ m → m ≤ W → rest ≤ W → due (now rooms w (w .me)) ≡ m
+        → At n rooms kept w (only (w .me)) 1 → Whole n rooms kept (receive w from (msg.Token m rest l))
+    unfolding receive tokened tokenedBy
+    token-kept m rest l some code rest-code waits a =
+        serve-kept n rooms kept (sendOut (withRoom w rooted) (leaving (w .room) from))
+        (put-leaving n rooms kept (withRoom w rooted) (w .room) from (facts .lender-low) (facts .lender-other)
+        (set-unnamed n rooms kept w (only (w .me)) 1 a rooted rooted-facts long (unnamed m 1 some waits a) empty 0 ended
+        (sym (ap (λ (d : ℕ). one (ltb 0 d)) (held-waits rooted m some)))
+        (rw (tokenless a) refl)))
+        (ap (λ (r : Room). r .token) (sent-room (withRoom w rooted) (leaving (w .room) from)))
+      where
+        facts : RoomFacts n (w .me) (w .room)
+        facts = own-room n rooms kept w (only (w .me)) 1 a
+
+        rooted : Room
+        rooted = tokenedBy (w .room) (w .me) from m rest l
+
+        -- its entry for the sender, then no lender, then the token, then the mode
+        entered : Room
+        entered = setEntry (w .room) from (entryOf rest l)
+
+        entered-facts : RoomFacts n (w .me) entered
+        entered-facts = entry-set-facts n (w .me) (w .room) facts from rest l (a .small) (a .long) from-low apart rest-code
+
+        with-token : RoomFacts n (w .me) (withToken (withDebt entered nobody 0 0) true (w .me))
+        with-token =
+            gained-facts n (w .me) (withDebt entered nobody 0 0) (free-facts n (w .me) entered entered-facts (a .low) (a .small)) (a .low) refl
+
+        rooted-facts : RoomFacts n (w .me) rooted
+        rooted-facts =
+            counter-facts n (w .me) (withModes (withToken (withDebt entered nobody 0 0) true (w .me)) m 0)
+            (modes-facts n (w .me) (withToken (withDebt entered nobody 0 0) true (w .me)) with-token m 0 code (omega arith) (λ e. refl) (λ e. refl) (λ p z. absurd (z refl)))
+            (lifted (w .room .counter) l)
+
+        long : length (set (w .room .entries) from (entryOf rest l)) ≡ roomLimit
+        long = length-set (w .room .entries) from (entryOf rest l) ∙ a .long
+
+    -- "REDUCE: if b's entry for a has this link number and a stronger mode than the new one, it takes the new mode; else the message is dropped."
+    reduce-kept : (l m : ℕ) → m ≤ W → Whole n rooms kept w → Whole n rooms kept (receive w from (msg.Reduce l m))
+    unfolding receive reduced due
+    reduce-kept l m code a =
+        settle-or-serve-kept n rooms kept (withRoom w (reduced (w .room) from l m))
+        (by-test (λ (r : Room). Whole n rooms kept (withRoom w r)) (eqb (entryAt (w .room) from .link) l && isStronger (entryAt (w .room) from .mode) m)
+        (setEntry (w .room) from (entryOf m l)) (w .room)
+        (λ e. set-alike n rooms kept w empty 0 a (setEntry (w .room) from (entryOf m l))
+        (entry-set-facts n (w .me) (w .room) (own-room n rooms kept w empty 0 a) from m l (a .small) (a .long) from-low apart code)
+        (length-set (w .room .entries) from (entryOf m l) ∙ a .long) refl refl)
+        (λ e. a))
+
+  -- whatever the message is
+  pub receive-kept : (m : Message) → Right n (now rooms w) (record { «from» = from; to = w .me; message = m })
+      → At n rooms kept w (λ c. one (isNamedIn c (w .me) m)) (one (isToken m)) → Whole n rooms kept (receive w from m)
+  unfolding receive isNamedIn isToken messageFine namesRightly
+  receive-kept msg.Nothing r a = absurd (false≢true (r .facts .fine))
+  receive-kept (msg.Request o m idle) r a =
+      request-kept o m idle (ltb-true o n (and-left _ _ (r .facts .fine)))
+      (leb-true _ _ (and-left _ _ (and-right (ltb o n) (isMode m) (r .facts .fine))))
+      (leb-true _ _ (and-right (leb IR m) _ (and-right (ltb o n) (isMode m) (r .facts .fine))))
+      (eqb-true _ _ (r .facts .rightly)) (r .unowned o m idle refl) a
+  receive-kept (msg.Grant m l) r a =
+      grant-kept (r .facts .from-low) (r .facts .apart) m l (r .facts .fine) (eqb-true _ _ (and-left _ _ (r .facts .rightly)))
+      (not-true _ (and-right (eqb (due (now rooms w (w .me))) m) _ (r .facts .rightly))) a
+  receive-kept (msg.Token m rest l) r a =
+      token-kept (r .facts .from-low) (r .facts .apart) m rest l
+      (leb-true _ _ (and-left _ _ (and-left (isMode m) _ (r .facts .fine))))
+      (leb-true _ _ (and-right (leb IR m) _ (and-left (isMode m) _ (r .facts .fine))))
+      (leb-true _ _ (and-right (isMode m) _ (r .facts .fine)))
+      (eqb-true _ _ (r .facts .rightly)) a
+  receive-kept (msg.Reduce l m) r a = reduce-kept (r .facts .from-low) (r .facts .apart) l m (leb-true _ _ (r .facts .fine)) a

@@ -1,0 +1,62 @@
+-- "Settle (without the token)" keeps a moment whole.
+use mathlib.Core.Path.{_≡_, refl}
+use mathlib.Core.Logic.{_≢_}
+use mathlib.Core.Bool.{false}
+use mathlib.Core.List.{List}
+use Prim.Native.Nat.{ℕ, _<_}
+use native.Mathlib.Omega.{arith}
+use lib.Dec.{eqb}
+use borrow.Author.Tests.{eqb-true, eqb-false}
+use Rattle.base.specs.Choice.{by-test}
+use Rattle.modes.specs.Modes.{isStronger}
+use Rattle.modes.proofs.Laws.{stronger-true}
+use Rattle.room.specs.declared.Room.{Room}
+use Rattle.room.specs.declared.Changed.{Changed}
+use Rattle.room.specs.declared.Send.the-variants as out
+use Rattle.room.specs.Limits.{nobody}
+use Rattle.room.specs.Record.{withDebt}
+use Rattle.room.specs.Owned.{owned}
+use Rattle.room.specs.Rules.{credited, settled}
+use Rattle.table.specs.declared.Wire.{Wire}
+use Rattle.table.specs.Formed.{due}
+use Rattle.rules.specs.Work.{Work, withRoom, change, sendOut}
+use Rattle.rules.specs.Rules.{settle}
+use Rattle.facts.specs.Rooms.{RoomFacts}
+use Rattle.kept.specs.Moment.{empty}
+use Rattle.kept.specs.Owns.{owned-code}
+use Rattle.kept.specs.Records.{free-facts, owing-facts}
+use Rattle.kept.specs.Acts.{Whole, own-room, set-alike}
+use Rattle.kept.specs.Sends.{put-reduce}
+
+module _ (n : ℕ) (rooms : ℕ → Room) (kept : List Wire) (w : Work) (a : Whole n rooms kept w) (without : w .room .token ≡ false) where
+  facts : RoomFacts n (w .me) (w .room)
+  facts = own-room n rooms kept w empty 0 a
+
+  -- what is owed has a lender
+  has-lender : owned (w .room) < w .room .credit → w .room .lender ≢ nobody
+  has-lender h e = omega (arith, facts .nobody-none e)
+
+  -- "credit becomes owned, and at none the lender is nobody"
+  owing-less : owned (w .room) < w .room .credit → Whole n rooms kept (withRoom w (credited (w .room) (owned (w .room))))
+  unfolding credited due
+  owing-less h =
+      by-test (λ (r : Room). Whole n rooms kept (withRoom w r)) (eqb (owned (w .room)) 0)
+      (withDebt (w .room) nobody (owned (w .room)) 0) (withDebt (w .room) (w .room .lender) (owned (w .room)) (w .room .link))
+      (λ e. rw (eqb-true (owned (w .room)) 0 e) (set-alike n rooms kept w empty 0 a _ (free-facts n (w .me) (w .room) facts (a .low) (a .small)) (a .long) refl refl))
+      (λ e. set-alike n rooms kept w empty 0 a _ (owing (eqb-false _ _ e)) (a .long) refl refl)
+    where
+      owing : owned (w .room) ≢ 0 → RoomFacts n (w .me) (withDebt (w .room) (w .room .lender) (owned (w .room)) (w .room .link))
+      owing e =
+          owing-facts n (w .me) (w .room) facts (w .room .lender) (owned (w .room)) (w .room .link) (a .small) (facts .lender-low (has-lender h))
+          (facts .lender-other) (omega arith) (owned-code n (w .me) (w .room) facts) without
+
+  pub settle-kept : Whole n rooms kept (settle w)
+  unfolding settle settled sendOut
+  settle-kept =
+      by-test (λ (c : Changed). Whole n rooms kept (change w c)) (isStronger (w .room .credit) (owned (w .room)))
+      (record { room = credited (w .room) (owned (w .room)); send = out.Reduce (w .room .lender) (w .room .link) (owned (w .room)) })
+      (record { room = w .room; send = out.Nothing })
+      (λ e. let h : owned (w .room) < w .room .credit = stronger-true (w .room .credit) (owned (w .room)) e in
+      put-reduce n rooms kept (withRoom w (credited (w .room) (owned (w .room)))) (w .room .lender) (facts .lender-low (has-lender h))
+      (facts .lender-other) (w .room .link) (owned (w .room)) (owned-code n (w .me) (w .room) facts) (owing-less h))
+      (λ e. a)

@@ -1,0 +1,33 @@
+use borrow.Author.Needs.{needs}
+use Rattle.step.proofs.finish.finish.Statement.{statement}
+use Rattle.step.proofs.finish.finish.Tie as tie
+use Rattle.step.proofs.finish.finish.Reads as reads
+use Rattle.step.proofs.finish.finish.Lts as lts
+use Rattle.step.proofs.finish.written.Reads as written-reads
+
+-- src/finish.rt:78:9
+returns : tie.Need-returns
+returns c = ?
+
+-- src/finish.rt:80:16
+sub-kept : tie.Need-sub-kept
+sub-kept c = search needs
+
+-- src/finish.rt:81:17
+sub-if2 : tie.Need-sub-if2
+sub-if2 c = search needs
+
+-- src/finish.rt:82:9
+returns-2 : tie.Need-returns-2
+returns-2 c = ?
+
+-- src/finish.rt:84:32
+written-requires : tie.Need-written-requires
+written-requires c κs = search needs
+
+-- src/finish.rt:73:1
+returns-3 : tie.Need-returns-3
+returns-3 c = ?
+
+pub finish-spec : {M : Type 1} → statement M
+finish-spec = tie.close (tie.spec returns sub-kept sub-if2 returns-2 written-requires returns-3)
