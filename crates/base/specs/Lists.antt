@@ -7,7 +7,7 @@ use Prim.Native.Nat.{ℕ, zero, suc, _+_, _≤_, _<_}
 use native.Mathlib.Nat.{not-suc-le-zero, le-of-suc-le-suc}
 use native.Mathlib.Numerals.{add-one}
 use native.Mathlib.Omega.{arith}
-use lib.ListN.{length, getD, take}
+use lib.ListN.{length, getD, take, drop}
 use lib.Seq.{take-suc}
 use Rattle.base.specs.Sums.{one, one-le}
 
@@ -91,3 +91,11 @@ module _ {A : Type 0} where
   unfolding total
   mem-total f (List·Memᴰ·head {x = x} e) = omega (arith, ap f e)
   mem-total f (List·Memᴰ·tail m) = omega (arith, mem-total f m)
+
+  -- what stands before place i, and what stands behind it
+  pub remove-split : (i : ℕ) (l : List A) → remove i l ≡ take i l ++ drop (suc i) l
+  unfolding remove
+  remove-split zero [] = refl
+  remove-split (suc i) [] = refl
+  remove-split zero (x ∷ l) = refl
+  remove-split (suc i) (x ∷ l) = ap (λ (t : List A). x ∷ t) (remove-split i l)

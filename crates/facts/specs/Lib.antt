@@ -6,3 +6,4 @@ pub mod Moments
 pub mod Blank
 pub mod Whole
 pub mod Names
+pub mod Search

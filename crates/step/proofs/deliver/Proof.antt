@@ -1,3 +1,10 @@
+use native.Mathlib.Omega.{arith}
+use mathlib.Core.Path.{sym, _∙_}
+use Rattle.rules.specs.Rules as rules
+use Rattle.rules.specs.Work.{workAt}
+use Rattle.step.proofs.Known.{shaped, sent-fits}
+use Rattle.step.proofs.Refused.{deliver-from, deliver-to, deliver-empty, deliver-made}
+use Rattle.step.proofs.Steps.{room-low, takes-one, deliver-ends}
 use borrow.Author.Needs.{needs}
 use Rattle.step.proofs.deliver.Statement.{statement}
 use Rattle.step.proofs.deliver.Tie as tie
@@ -9,11 +16,19 @@ use Rattle.table.proofs.oldest.Reads as oldest-reads
 
 -- src/lib.rt:124:9
 returns : tie.Need-returns
-returns c = ?
+returns c = 
+    let s = c .before .before in
+    let t = s .args .t1 in
+    let e = s .args .e in
+    deliver-from t e (s .pre .0) (s .pre .1) (omega arith)
 
 -- src/lib.rt:127:9
 returns-2 : tie.Need-returns-2
-returns-2 c = ?
+returns-2 c = 
+    let s = c .before .before .before .before in
+    let t = s .args .t1 in
+    let e = s .args .e in
+    deliver-to t e (s .pre .0) (s .pre .1) (omega arith) (omega arith)
 
 -- src/lib.rt:129:40
 oldest-requires : tie.Need-oldest-requires
@@ -29,7 +44,11 @@ enum-told c = search needs
 
 -- src/lib.rt:130:9
 returns-3 : tie.Need-returns-3
-returns-3 c = ?
+returns-3 c = 
+    let s = c .before .before .before .before .before .before .before in
+    let t = s .args .t1 in
+    let e = s .args .e in
+    deliver-empty t e (s .pre .0) (s .pre .1) (omega arith) (omega arith) _ (c .before .before .oldest .ensures) (c .enum-told .given .1)
 
 -- src/lib.rt:132:13
 cast-b : tie.Need-cast-b
@@ -41,7 +60,12 @@ mul-room c = search needs
 
 -- src/lib.rt:133:16
 element-copy-out-room : tie.Need-element-copy-out-room
-element-copy-out-room c = ?
+element-copy-out-room c = 
+    let s = c .before .before .before .before .before .before .before .before .before in
+    let t = s .args .t1 in
+    let e = s .args .e in
+    let shape = shaped t (s .good .0) in
+    room-low t shape (s .pre .0) (e .other) (omega arith)
 
 -- src/lib.rt:135:9
 receive-requires : tie.Need-receive-requires
@@ -49,11 +73,27 @@ receive-requires c κs = search needs
 
 -- src/lib.rt:136:5
 finish-requires : tie.Need-finish-requires
-finish-requires c κs = ?
+finish-requires c κs = 
+    let s = c .before .before .before .before .before .before .before .before .before .before .before .before in
+    let t = s .args .t1 in
+    let e = s .args .e in
+    let shape = shaped t (s .good .0) in
+    let found = c .before .before .before .before .before .place .given in
+    (
+      takes-one t shape (s .pre .0) (e .room) (e .other) _ _ (omega arith) (sym (c .before .before .before .before .before .before .before .oldest .ensures) ∙ found .1),
+      sent-fits (c .receive .result) (c .receive .ok) (rules.receive (workAt t (e .other)) (e .room) (found .0 .1 .0)) (c .receive .ensures),
+    )
 
 -- src/lib.rt:119:1
 returns-4 : tie.Need-returns-4
-returns-4 c = ?
+returns-4 c = 
+    let s = c .before .before .before .before .before .before .before .before .before .before .before .before .before in
+    let t = s .args .t1 in
+    let e = s .args .e in
+    let shape = shaped t (s .good .0) in
+    let found = c .before .before .before .before .before .before .place .given in
+    deliver-ends t shape (s .pre .0) (e .other) _ _ (e .room) _ _ (sym (c .before .before .before .before .before .before .before .before .oldest .ensures) ∙ found .1) (c .finish .ensures) (c .before .receive .ensures)
+    ∙ deliver-made t e (s .pre .0) (s .pre .1) (c .before .before .before .before .before .before .before .before .before .before .before .if1 .left) (c .before .before .before .before .before .before .before .before .before .if2 .left) _ (c .before .before .before .before .before .before .before .before .oldest .ensures) _ _ (found .1)
 
 pub deliver-spec : {M : Type 1} → statement M
 deliver-spec =

@@ -1,0 +1,82 @@
+-- A room that asks, and the origin of a REQUEST under way, are not in the queue: there is a place for them.
+use mathlib.Core.Path.{_≡_, refl, sym, _∙_, ap}
+use mathlib.Core.Bool.{Bool, true, false}
+use Prim.Native.Nat.{ℕ, _+_, _≤_, _<_}
+use native.Mathlib.Omega.{arith}
+use lib.Dec.{eqb, ltb}
+use lib.ListN.{length, getD}
+use borrow.Author.Tests.{eq-eqb}
+use Rattle.base.specs.Choice.{if_then_else_}
+use Rattle.base.specs.Sums.{one}
+use Rattle.base.specs.Lists.{count, Mem, mem-at, mem-total}
+use Rattle.table.specs.declared.Table.{Table}
+use Rattle.table.specs.declared.Wire.{Wire}
+use Rattle.table.specs.declared.Queued.{Queued}
+use Rattle.table.specs.declared.Message.{Message}
+use Rattle.table.specs.declared.Message.the-variants as msg
+use Rattle.table.specs.declared.Found.the-variants as found
+use Rattle.table.specs.Limits.{queueLimit}
+use Rattle.table.specs.Tables.{noWire, roomAt, queueOf, messagesOf}
+use Rattle.table.specs.Oldest.{oldestOf}
+use Rattle.table.specs.Formed.{due, isNamedIn, names, messageFine, wellFormed}
+use Rattle.facts.specs.Shapes.{Shaped}
+use Rattle.facts.specs.Moments.{Formed}
+use Rattle.facts.specs.Whole.{WellFormed, facts-of}
+use Rattle.facts.specs.Names.{queue-bound, queue-room, named-once}
+use Rattle.facts.specs.Search.{oldest-low, oldest-there}
+use Rattle.base.specs.Tests.{and-left}
+use borrow.Author.Tests.{ltb-true}
+use Rattle.step.proofs.Queues.{isRequest}
+
+module _ (t : Table) (s : Shaped t) (h : wellFormed t ≡ true) where
+  facts : WellFormed t
+  facts = facts-of t s h
+
+  in-queue : ℕ → ℕ
+  in-queue c = count (λ q. eqb (q .room) c) (queueOf t)
+
+  on-wires : ℕ → ℕ
+  on-wires c = count (λ w. isNamedIn c (w .to) (w .message)) (messagesOf t)
+
+  both : (c : ℕ) → names (queueOf t) (messagesOf t) c ≡ in-queue c + on-wires c
+  unfolding names in-queue on-wires
+  both c = refl
+
+  pub queue-fits : length (queueOf t) ≤ queueLimit
+  queue-fits = omega (arith, queue-bound (t .n) (roomAt t) (queueOf t) (messagesOf t) (facts .formed), facts .low)
+
+  -- a room that wants nothing is named nowhere
+  pub asks-place : (x : ℕ) → x < t .n → roomAt t x .wanted ≡ 0 → roomAt t x .held ≡ 0 → length (queueOf t) < queueLimit
+  unfolding due in-queue
+  asks-place x low w z =
+      let none : due (roomAt t x) ≡ 0 = simp (eq-eqb _ _ z) w in
+      let named : names (queueOf t) (messagesOf t) x ≡ 0 = facts .formed .named x low ∙ ap (λ (k : ℕ). one (ltb 0 k)) none in
+      omega (
+        arith,
+        queue-room (t .n) (roomAt t) (queueOf t) (messagesOf t) (facts .formed) x low (omega (arith, both x, named)),
+        facts .low,
+      )
+
+  -- the origin of a REQUEST is named by it, and by nothing else
+  pub request-place : (a b k o m : ℕ) (idle : Bool) → oldestOf t a b ≡ found.At k (msg.Request o m idle) → length (queueOf t) < queueLimit
+  unfolding isNamedIn in-queue on-wires messageFine
+  request-place a b k o m idle e =
+      let low = oldest-low t a b k (msg.Request o m idle) e in
+      let there = oldest-there t a b k (msg.Request o m idle) e in
+      let member : Mem (record { «from» = a; to = b; message = msg.Request o m idle }) (messagesOf t) = rw there at (mem-at (messagesOf t) k noWire low) in
+      let origin : o < t .n = ltb-true o (t .n) (and-left (ltb o (t .n)) _ (facts .formed .message _ member .fine)) in
+      let named : 1 ≤ on-wires o = rw (eq-eqb o o refl) at (mem-total (λ w. one (isNamedIn o (w .to) (w .message))) member) in
+      omega (
+        arith,
+        queue-room (t .n) (roomAt t) (queueOf t) (messagesOf t) (facts .formed) o origin (omega (arith, both o, named-once (t .n) (roomAt t) (queueOf t) (messagesOf t) (facts .formed) o origin)),
+        facts .low,
+      )
+
+  -- so whatever message arrives, the queue after it has its places
+  pub receive-place : (a b k : ℕ) (x : Message) → oldestOf t a b ≡ found.At k x → length (queueOf t) + one (isRequest x) ≤ queueLimit
+  unfolding isRequest
+  receive-place a b k msg.Nothing e = omega (arith, queue-fits)
+  receive-place a b k (msg.Request o m idle) e = omega (arith, request-place a b k o m idle e)
+  receive-place a b k (msg.Grant m l) e = omega (arith, queue-fits)
+  receive-place a b k (msg.Token m rest l) e = omega (arith, queue-fits)
+  receive-place a b k (msg.Reduce l m) e = omega (arith, queue-fits)

@@ -1,0 +1,144 @@
+-- The numbers in their order: for each kind of event a law for each refusal, and one for the step that is made.
+use mathlib.Core.Path.{_≡_, refl, sym, _∙_, ap}
+use mathlib.Core.Bool.{Bool, true, false, not, _&&_, _||_, and-false, or-true}
+use Prim.Native.Nat.{ℕ, _≤_, _<_}
+use native.Mathlib.Omega.{arith}
+use lib.Dec.{eqb, leb, ltb}
+use borrow.Author.Tests.{le-leb, lt-leb, eq-eqb, ne-eqb}
+use Rattle.base.specs.Choice.{if_then_else_}
+use Rattle.base.specs.Below.{allBelow}
+use Rattle.table.specs.declared.Table.{Table}
+use Rattle.table.specs.declared.Answer.{Answer}
+use Rattle.table.specs.declared.Message.{Message}
+use Rattle.table.specs.declared.Found.{Found}
+use Rattle.table.specs.declared.Found.the-variants as found
+use Rattle.table.specs.Tables.{roomAt, messagesOf, answer}
+use Rattle.table.specs.Oldest.{oldestOf}
+use Rattle.table.specs.Formed.{wellFormed}
+use Rattle.base.specs.Lists.{remove}
+use Rattle.rules.specs.declared.Event.{Event}
+use Rattle.rules.specs.Limits.{busyLimit, wornLimit}
+use Rattle.rules.specs.Work.{workAt}
+use Rattle.rules.specs.Rules.{ask, upgrade, handBack, receive}
+use Rattle.rules.specs.Refusals.{first, refusals, refusal, isFound, anyWorn}
+use Rattle.rules.specs.Step.{outcome, delivered, made, stepOf}
+use Rattle.step.specs.Passing.{AskPasses}
+
+module _ (t : Table) (e : Event) where
+  pub refused-table : wellFormed t ≡ false → answer 1 t ≡ stepOf t e
+  unfolding stepOf refusal refusals first
+  refused-table f = simp f
+
+  module _ (f : wellFormed t ≡ true) where
+    pub refused-kind : 3 < e .kind → answer 2 t ≡ stepOf t e
+    unfolding stepOf refusal refusals first
+    refused-kind k =
+        simp (f, ne-eqb (e .kind) 0 (λ q. omega arith), ne-eqb (e .kind) 1 (λ q. omega arith), ne-eqb (e .kind) 2 (λ q. omega arith), ne-eqb (e .kind) 3 (λ q. omega arith))
+
+    -- ASK
+    module _ (k : e .kind ≡ 0) where
+      pub ask-room : t .n ≤ e .room → answer 3 t ≡ stepOf t e
+      unfolding stepOf refusal refusals first
+      ask-room h = simp (f, k, le-leb _ _ h)
+
+      module _ (low : e .room < t .n) where
+        pub ask-below : e .mode < 1 → answer 4 t ≡ stepOf t e
+        unfolding stepOf refusal refusals first
+        ask-below h = simp (f, k, lt-leb _ _ low, lt-leb 1 (e .mode) h)
+
+        pub ask-above : 5 < e .mode → answer 4 t ≡ stepOf t e
+        unfolding stepOf refusal refusals first
+        ask-above h = simp (f, k, lt-leb _ _ low, lt-leb (e .mode) 5 h, and-false)
+
+        module _ (some : 1 ≤ e .mode) (code : e .mode ≤ 5) where
+          pub ask-waiting : (roomAt t (e .room) .wanted ≡ 0 → ⊥) → answer 5 t ≡ stepOf t e
+          unfolding stepOf refusal refusals first
+          ask-waiting h = simp (f, k, lt-leb _ _ low, le-leb 1 _ some, le-leb _ 5 code, ne-eqb _ _ h)
+
+          module _ (free : roomAt t (e .room) .wanted ≡ 0) where
+            pub ask-held : (roomAt t (e .room) .held ≡ 0 → ⊥) → answer 6 t ≡ stepOf t e
+            unfolding stepOf refusal refusals first
+            ask-held h = simp (f, k, lt-leb _ _ low, le-leb 1 _ some, le-leb _ 5 code, eq-eqb _ _ free, ne-eqb _ _ h)
+
+            module _ (empty : roomAt t (e .room) .held ≡ 0) where
+              pub ask-busy : busyLimit ≤ t .count → answer 9 t ≡ stepOf t e
+              unfolding stepOf refusal refusals first
+              ask-busy h =
+                  simp (f, k, lt-leb _ _ low, le-leb 1 _ some, le-leb _ 5 code, eq-eqb _ _ free, eq-eqb _ _ empty, le-leb _ _ h)
+
+              pub ask-passes : t .count < busyLimit → AskPasses t e
+              ask-passes h =
+                  record { formed = f; kind = k; «room» = low; mode = some; code = code; free = free; empty = empty; few = h }
+
+    -- UPGRADE
+    module _ (k : e .kind ≡ 1) where
+      pub upgrade-room : t .n ≤ e .room → answer 3 t ≡ stepOf t e
+      unfolding stepOf refusal refusals first
+      upgrade-room h = simp (f, k, le-leb _ _ h)
+
+      module _ (low : e .room < t .n) where
+        pub upgrade-waiting : (roomAt t (e .room) .wanted ≡ 0 → ⊥) → answer 5 t ≡ stepOf t e
+        unfolding stepOf refusal refusals first
+        upgrade-waiting h = simp (f, k, lt-leb _ _ low, ne-eqb _ _ h)
+
+        module _ (free : roomAt t (e .room) .wanted ≡ 0) where
+          pub upgrade-other : (roomAt t (e .room) .held ≡ 3 → ⊥) → answer 7 t ≡ stepOf t e
+          unfolding stepOf refusal refusals first
+          upgrade-other h = simp (f, k, lt-leb _ _ low, eq-eqb _ _ free, ne-eqb _ _ h)
+
+          pub upgrade-made : roomAt t (e .room) .held ≡ 3 → outcome t (messagesOf t) (upgrade (workAt t (e .room))) ≡ stepOf t e
+          unfolding stepOf refusal refusals first made
+          upgrade-made h = simp (f, k, lt-leb _ _ low, eq-eqb _ _ free, eq-eqb _ _ h)
+
+    -- HANDBACK
+    module _ (k : e .kind ≡ 2) where
+      pub back-room : t .n ≤ e .room → answer 3 t ≡ stepOf t e
+      unfolding stepOf refusal refusals first
+      back-room h = simp (f, k, le-leb _ _ h)
+
+      module _ (low : e .room < t .n) where
+        pub back-waiting : (roomAt t (e .room) .wanted ≡ 0 → ⊥) → answer 5 t ≡ stepOf t e
+        unfolding stepOf refusal refusals first
+        back-waiting h = simp (f, k, lt-leb _ _ low, ne-eqb _ _ h)
+
+        module _ (free : roomAt t (e .room) .wanted ≡ 0) where
+          pub back-empty : roomAt t (e .room) .held ≡ 0 → answer 7 t ≡ stepOf t e
+          unfolding stepOf refusal refusals first
+          back-empty h = simp (f, k, lt-leb _ _ low, eq-eqb _ _ free, eq-eqb _ _ h)
+
+          pub back-made : (roomAt t (e .room) .held ≡ 0 → ⊥) → outcome t (messagesOf t) (handBack (workAt t (e .room))) ≡ stepOf t e
+          unfolding stepOf refusal refusals first made
+          back-made h = simp (f, k, lt-leb _ _ low, eq-eqb _ _ free, ne-eqb _ _ h)
+
+    -- DELIVER
+    module _ (k : e .kind ≡ 3) where
+      pub deliver-from : t .n ≤ e .room → answer 3 t ≡ stepOf t e
+      unfolding stepOf refusal refusals first
+      deliver-from h = simp (f, k, le-leb _ _ h)
+
+      module _ (low : e .room < t .n) where
+        pub deliver-to : t .n ≤ e .other → answer 3 t ≡ stepOf t e
+        unfolding stepOf refusal refusals first
+        deliver-to h = simp (f, k, lt-leb _ _ low, le-leb _ _ h)
+
+        module _ (near : e .other < t .n) (r : Found) (s : r ≡ oldestOf t (e .room) (e .other)) where
+          pub deliver-empty : r ≡ found.Nothing → answer 8 t ≡ stepOf t e
+          unfolding stepOf refusal refusals first isFound
+          deliver-empty h = simp (f, k, lt-leb _ _ low, lt-leb _ _ near, sym s ∙ h)
+
+          pub deliver-made : (j : ℕ) (x : Message) → r ≡ found.At j x
+              → outcome t (remove j (messagesOf t)) (receive (workAt t (e .other)) (e .room) x) ≡ stepOf t e
+          unfolding stepOf refusal refusals first isFound made delivered
+          deliver-made j x h = simp (f, k, lt-leb _ _ low, lt-leb _ _ near, sym s ∙ h)
+
+-- ASK, past every other test
+module _ (t : Table) (e : Event) (p : AskPasses t e) where
+  pub ask-worn : allBelow (t .n) (λ c. ltb (roomAt t c .counter) wornLimit) ≡ false → answer 10 t ≡ stepOf t e
+  unfolding stepOf refusal refusals first anyWorn
+  ask-worn h =
+      simp (p .formed, p .kind, lt-leb _ _ (p .«room»), le-leb 1 _ (p .mode), le-leb _ 5 (p .code), eq-eqb _ _ (p .free), eq-eqb _ _ (p .empty), lt-leb _ _ (p .few), h)
+
+  pub ask-made : allBelow (t .n) (λ c. ltb (roomAt t c .counter) wornLimit) ≡ true → outcome t (messagesOf t) (ask (workAt t (e .room)) (e .mode)) ≡ stepOf t e
+  unfolding stepOf refusal refusals first anyWorn made
+  ask-made h =
+      simp (p .formed, p .kind, lt-leb _ _ (p .«room»), le-leb 1 _ (p .mode), le-leb _ 5 (p .code), eq-eqb _ _ (p .free), eq-eqb _ _ (p .empty), lt-leb _ _ (p .few), h)

@@ -1,0 +1,64 @@
+use borrow.Author.Needs.{needs}
+use Rattle.step.proofs.step.Statement.{statement}
+use Rattle.step.proofs.step.Tie as tie
+use Rattle.step.proofs.step.Reads as reads
+use Rattle.step.proofs.step.Lts as lts
+use Rattle.step.proofs.ask.Reads as ask-reads
+use Rattle.step.proofs.deliver.Reads as deliver-reads
+use Rattle.step.proofs.hand_back.Reads as hand-back-reads
+use Rattle.step.proofs.upgrade.Reads as upgrade-reads
+
+-- src/lib.rt:144:9
+returns : tie.Need-returns
+returns c = ?
+
+-- src/lib.rt:148:16
+ask-requires : tie.Need-ask-requires
+ask-requires c κs = ?
+
+-- src/lib.rt:149:20
+upgrade-requires : tie.Need-upgrade-requires
+upgrade-requires c κs = ?
+
+-- src/lib.rt:150:21
+hand-back-requires : tie.Need-hand-back-requires
+hand-back-requires c κs = ?
+
+-- src/lib.rt:151:20
+deliver-requires : tie.Need-deliver-requires
+deliver-requires c κs = ?
+
+-- src/lib.rt:140:1
+returns-2 : tie.Need-returns-2
+returns-2 c = search needs
+
+-- src/lib.rt:140:1
+returns-3 : tie.Need-returns-3
+returns-3 c = search needs
+
+-- src/lib.rt:140:1
+returns-4 : tie.Need-returns-4
+returns-4 c = search needs
+
+-- src/lib.rt:140:1
+returns-5 : tie.Need-returns-5
+returns-5 c = search needs
+
+-- src/lib.rt:140:1
+returns-6 : tie.Need-returns-6
+returns-6 c = ?
+
+pub step-spec : {M : Type 1} → statement M
+step-spec =
+    tie.close
+    (tie.spec
+    returns
+    ask-requires
+    upgrade-requires
+    hand-back-requires
+    deliver-requires
+    returns-2
+    returns-3
+    returns-4
+    returns-5
+    returns-6)
