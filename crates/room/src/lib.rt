@@ -58,7 +58,7 @@ pub struct Passed {
 }
 
 // An entry of this mode; mode none has link number zero.
-pub fn entry_of(mode: u8, link: u32) -> Entry
+fn entry_of(mode: u8, link: u32) -> Entry
     ensures { λ r. ⌜ r ≡ entryOf mode link ⌝ }
 {
     match mode {
@@ -86,7 +86,7 @@ impl Room {
     }
 
     // The entry for room c, none where the record has no place for it.
-    pub fn entry(self, c: u8) -> Entry
+    fn entry(self, c: u8) -> Entry
         ensures { λ r. ⌜ r ≡ entryAt self c ⌝ }
     {
         let at = c as usize;
@@ -97,7 +97,7 @@ impl Room {
     }
 
     // The record with this entry for room c, where it has a place for one.
-    pub fn with_entry(self, c: u8, e: Entry) -> Room
+    fn with_entry(self, c: u8, e: Entry) -> Room
         ensures { λ r. ⌜ r ≡ setEntry self c e ⌝ }
     {
         let at = c as usize;
@@ -188,7 +188,7 @@ impl Room {
     }
 
     // What taking a loan or the token from a sends to another lender.
-    pub fn leave(self, a: u8) -> Send
+    fn leave(self, a: u8) -> Send
         ensures { λ r. ⌜ r ≡ leaving self a ⌝ }
     {
         if self.lender == NOBODY {
