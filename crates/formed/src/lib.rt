@@ -1,1 +1,82 @@
-// The test of well-formedness, proved to be the definition.
+// Whether a table is well formed. Each room, each place of the queue and each wire is looked at once.
+ghost use mathlib.Core.Path.{_≡_};
+ghost use Prim.Native.Nat.{_≤_};
+ghost use lib.Dec.{ltb};
+ghost use Rattle.base.specs.Sums.{one};
+ghost use Rattle.room.specs.Limits.{roomLimit};
+ghost use Rattle.table.specs.Formed.{wellFormed};
+ghost use Rattle.formed.specs.Names.{timesFine};
+
+mod ranges; // ranges.rt: codes and sizes in range
+mod rooms; // rooms.rt: the rooms' records
+mod queue; // queue.rt: the places of the queue
+mod wires; // wires.rt: the messages
+
+use room::ROOMS;
+use rooms::Standing;
+use table::Table;
+use table::WIRES;
+
+// How often a room that waits for this mode is to be named.
+fn times_due(due: u8) -> usize
+    ensures { λ k. ⌜ k ≡ one (ltb 0 due) ⌝ }
+{
+    match due {
+        modes::NONE => 0,
+        1..=255 => 1,
+    }
+}
+
+// Whether each of n rooms is named once if it waits, else never.
+fn times_fine(n: u8, rooms: [Standing; ROOMS], times: [usize; ROOMS]) -> bool
+    requires { ⌜ n ≤ roomLimit ⌝ }
+    ensures { λ b. ⌜ b ≡ timesFine n rooms times ⌝ }
+{
+    let mut c: usize = 0;
+    while c < n as usize {
+        let room = rooms[c];
+        if times[c] != times_due(room.due) {
+            return false;
+        }
+        c += 1;
+    }
+    true
+}
+
+pub fn well_formed(t: Table) -> bool
+    ensures { λ b. ⌜ b ≡ wellFormed t ⌝ }
+{
+    let n = t.n;
+    let queued = t.queued;
+    let count = t.count;
+    if !ranges::sizes_fit(n, queued, count) {
+        return false;
+    }
+    let records = t.rooms;
+    let seen = rooms::look_over(n, records);
+    if !seen.fine {
+        return false;
+    }
+    let standings = seen.rooms;
+    let places = t.queue;
+    let named = queue::look_over(n, standings, places, queued);
+    if !named.fine {
+        return false;
+    }
+    let mut times = named.times;
+    let mut tokens = seen.tokens;
+    let mut i: usize = 0;
+    while i < WIRES {
+        let w = t.wires[i];
+        if !wires::wire_fine(n, standings, i < count, w) {
+            return false;
+        }
+        let at = wires::named_by(w);
+        if at < ROOMS {
+            times[at] += 1;
+        }
+        tokens += wires::tokens_in(w);
+        i += 1;
+    }
+    tokens == 1 && times_fine(n, standings, times)
+}

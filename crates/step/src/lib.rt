@@ -140,7 +140,7 @@ fn deliver(t: Table, e: Event) -> Answer
 pub fn step(t: Table, e: Event) -> Answer
     ensures { λ r. ⌜ r ≡ stepOf t e ⌝ }
 {
-    if t.n > 16 {
+    if !formed::well_formed(t) {
         return Answer { number: 1, table: t };
     }
     let kind = e.kind;

@@ -1,32 +1,47 @@
+use native.Mathlib.Omega.{arith}
+use mathlib.Core.Path.{_≡_, sym, _∙_}
+use mathlib.Core.Bool.{true}
+use borrow.Author.Tests.{not-true, not-false}
+use Rattle.table.specs.Formed.{wellFormed}
+use Rattle.step.proofs.Refused.{refused-table, refused-kind}
 use borrow.Author.Needs.{needs}
 use Rattle.step.proofs.step.Statement.{statement}
 use Rattle.step.proofs.step.Tie as tie
 use Rattle.step.proofs.step.Reads as reads
 use Rattle.step.proofs.step.Lts as lts
+use Rattle.formed.proofs.well_formed.Reads as well-formed-reads
 use Rattle.step.proofs.ask.Reads as ask-reads
 use Rattle.step.proofs.deliver.Reads as deliver-reads
 use Rattle.step.proofs.hand_back.Reads as hand-back-reads
 use Rattle.step.proofs.upgrade.Reads as upgrade-reads
 
+-- past the first test the table is well formed
+well : (c : tie.Else1) → wellFormed (c .before .before .args .t) ≡ true
+well c = sym (c .before .well-formed .ensures) ∙ not-false _ (c .if1 .left)
+
+-- src/lib.rt:143:9
+well-formed-requires : tie.Need-well-formed-requires
+well-formed-requires c κs = search needs
+
 -- src/lib.rt:144:9
 returns : tie.Need-returns
-returns c = ?
+returns c = refused-table _ _ (sym (c .before .well-formed .ensures) ∙ not-true _ (c .if1 .taken))
 
 -- src/lib.rt:148:16
 ask-requires : tie.Need-ask-requires
-ask-requires c κs = ?
+ask-requires c κs = (well (c .before), c .match .keys1)
 
 -- src/lib.rt:149:20
 upgrade-requires : tie.Need-upgrade-requires
-upgrade-requires c κs = ?
+upgrade-requires c κs = (well (c .before), c .match .keys2)
 
 -- src/lib.rt:150:21
 hand-back-requires : tie.Need-hand-back-requires
-hand-back-requires c κs = ?
+hand-back-requires c κs = (well (c .before), c .match .keys3)
 
 -- src/lib.rt:151:20
 deliver-requires : tie.Need-deliver-requires
-deliver-requires c κs = ?
+deliver-requires c κs = (well (c .before), c .match .keys4)
 
 -- src/lib.rt:140:1
 returns-2 : tie.Need-returns-2
@@ -46,12 +61,13 @@ returns-5 c = search needs
 
 -- src/lib.rt:140:1
 returns-6 : tie.Need-returns-6
-returns-6 c = ?
+returns-6 c = refused-kind _ _ (well (c .before)) (omega arith)
 
 pub step-spec : {M : Type 1} → statement M
 step-spec =
     tie.close
     (tie.spec
+    well-formed-requires
     returns
     ask-requires
     upgrade-requires

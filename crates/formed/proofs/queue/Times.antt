@@ -1,0 +1,68 @@
+-- What the loop over the queue's places gathers: how often each room is named.
+use mathlib.Core.Path.{_≡_, refl, sym, _∙_}
+use mathlib.Core.Bool.{Bool, true, false}
+use mathlib.Core.List.{List}
+use Prim.Native.Nat.{ℕ, _+_, _≤_, _<_}
+use native.Mathlib.Omega.{arith}
+use lib.ListN.{length, getD, take, replicate, getD-replicate}
+use lib.Dec.{ltb, eqb}
+use borrow.Author.Tests.{lt-ltb, le-ltb, ne-eqb}
+use Rattle.base.specs.Choice.{if_then_else_}
+use Rattle.base.specs.Below.{allBelow, all-fails}
+use Rattle.base.specs.Sums.{one}
+use Rattle.base.specs.Lists.{count, total-none}
+use Rattle.table.specs.declared.Queued.{Queued}
+use Rattle.table.specs.Tables.{noQueued}
+use Rattle.formed.specs.declared.rooms.Standing.{Standing}
+use Rattle.formed.specs.declared.queue.Named.{Named}
+use Rattle.formed.specs.Names.{queuePlaceFine, namedIn}
+use Rattle.formed.proofs.Lists.{listed-is, prefix-low, prefix-all, prefix-next}
+use Rattle.formed.proofs.Counted.{Counted}
+
+-- how many of the first i places, of those in use, name the room c
+unfoldable pub placesNaming : List Queued → ℕ → ℕ → ℕ → ℕ
+placesNaming queue queued i c = count (λ q. eqb (q .room) c) (take i (take queued queue))
+
+module _ (queue : List Queued) (queued : ℕ) where
+  pub naming-none : Counted (replicate 16 0) (placesNaming queue queued 0)
+  unfolding placesNaming
+  naming-none =
+      record { long = refl; at = λ c h. getD-replicate 16 c 0 0 h ∙ sym (total-none (λ q. one (eqb (q .room) c)) (take queued queue)) }
+
+  pub naming-low : (i c : ℕ) → placesNaming queue queued i c ≤ i
+  unfolding placesNaming
+  naming-low i c = prefix-low (λ q. eqb (q .room) c) queue queued i
+
+  pub naming-next : (i : ℕ) → i < length queue → (at : ℕ) → at ≡ (if ltb i queued then getD queue i noQueued .room else 16)
+      → (c : ℕ) → c < 16 → placesNaming queue queued (i + 1) c ≡ placesNaming queue queued i c + one (eqb at c)
+  unfolding placesNaming
+  naming-next i h at e c l =
+      prefix-next
+      (λ q. eqb (q .room) c)
+      queue
+      queued
+      noQueued
+      i
+      h
+      (eqb at c)
+      (λ k. rw e (simp (lt-ltb i queued k)))
+      (λ k. rw e (simp (le-ltb i queued k, ne-eqb 16 c (omega arith))))
+
+module _ (n : ℕ) (rooms : List Standing) (queue : List Queued) (queued : ℕ) where
+  pub named-ill : (i : ℕ) → i < 16 → queuePlaceFine n rooms (ltb i queued) (getD queue i noQueued) ≡ false
+      → record { fine = false; times = replicate 16 0 } ≡ namedIn n rooms queue queued
+  unfolding namedIn
+  named-ill i h e = rw (all-fails (λ i. queuePlaceFine n rooms (ltb i queued) (getD queue i noQueued)) 16 i h e)
+
+  pub named-all : length queue ≡ 16 → allBelow 16 (λ i. queuePlaceFine n rooms (ltb i queued) (getD queue i noQueued)) ≡ true
+      → (times : List ℕ) → Counted times (placesNaming queue queued 16) → record { fine = true; times = times } ≡ namedIn n rooms queue queued
+  unfolding namedIn placesNaming
+  named-all long a times k =
+      rw
+      (a, listed-is
+        16
+        (λ c. count (λ q. eqb (q .room) c) (take queued queue))
+        0
+        times
+        (k .long)
+        (λ c h. k .at c h ∙ prefix-all (λ q. eqb (q .room) c) queue queued 16 (omega arith)))

@@ -1,0 +1,56 @@
+-- A law for each branch of the tests of ranges, over plain numbers.
+use mathlib.Core.Path.{_≡_, sym}
+use mathlib.Core.Bool.{Bool, true, false, and-false}
+use Prim.Native.Nat.{ℕ, _≤_, _<_}
+use native.Mathlib.Omega.{arith}
+use lib.Dec.{leb, eqb}
+use borrow.Author.Tests.{le-leb, lt-leb, eq-eqb, ne-eqb, eqb-false}
+use Rattle.base.specs.Choice.{split}
+use Rattle.table.specs.Formed.{isCode, isMode, sizesFit}
+use Rattle.formed.specs.Parts.{isGranted}
+
+module _ (m : ℕ) where
+  pub code-low : m < 6 → true ≡ isCode m
+  code-low h = sym (le-leb m 5 (omega arith))
+
+  pub code-high : 6 ≤ m → false ≡ isCode m
+  code-high h = sym (lt-leb m 5 (omega arith))
+
+  pub mode-none : m ≡ 0 → false ≡ isMode m
+  mode-none h = rw h
+
+  pub mode-high : 6 ≤ m → false ≡ isMode m
+  mode-high h = simp (lt-leb m 5 (omega arith), and-false)
+
+  pub mode-some : (m ≡ 0 → ⊥) → m < 6 → true ≡ isMode m
+  mode-some h k = simp (le-leb 1 m (omega arith), le-leb m 5 (omega arith))
+
+  pub granted-not : (m ≡ 1 → ⊥) → (m ≡ 2 → ⊥) → (m ≡ 4 → ⊥) → false ≡ isGranted m
+  unfolding isGranted
+  granted-not p q r = simp (ne-eqb m 1 p, ne-eqb m 2 q, ne-eqb m 4 r)
+
+  pub granted-IW : m ≡ 4 → true ≡ isGranted m
+  unfolding isGranted
+  granted-IW h = rw h
+
+  pub granted-low : (m ≡ 0 → ⊥) → m < 3 → true ≡ isGranted m
+  unfolding isGranted
+  granted-low h k = split (eqb m 1) (λ e. simp e) (λ e. simp (e, eq-eqb m 2 (omega (arith, eqb-false m 1 e))))
+
+module _ (n queued count : ℕ) where
+  pub sizes-none : n < 1 → false ≡ sizesFit n queued count
+  unfolding sizesFit
+  sizes-none h = simp (lt-leb 1 n h)
+
+  pub sizes-many : 17 ≤ n → false ≡ sizesFit n queued count
+  unfolding sizesFit
+  sizes-many h = simp (lt-leb n 16 (omega arith), and-false)
+
+  module _ (low : 1 ≤ n) (high : n < 17) where
+    pub sizes-queue : 16 < queued → leb queued 16 ≡ sizesFit n queued count
+    unfolding sizesFit
+    sizes-queue h = simp (lt-leb queued 16 h, and-false)
+
+    pub sizes-count : queued ≤ 16 → leb count 256 ≡ sizesFit n queued count
+    unfolding sizesFit
+    sizes-count h = simp (le-leb 1 n low, le-leb n 16 (omega arith), le-leb queued 16 h)

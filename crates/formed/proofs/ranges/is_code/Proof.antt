@@ -1,0 +1,17 @@
+use borrow.Author.Needs.{needs}
+use Rattle.formed.proofs.ranges.Laws.{code-low, code-high}
+use Rattle.formed.proofs.ranges.is_code.Statement.{statement}
+use Rattle.formed.proofs.ranges.is_code.Tie as tie
+use Rattle.formed.proofs.ranges.is_code.Reads as reads
+use Rattle.formed.proofs.ranges.is_code.Lts as lts
+
+-- src/ranges.rt:11:1
+returns : tie.Need-returns
+returns c = search (needs, code-low)
+
+-- src/ranges.rt:11:1
+returns-2 : tie.Need-returns-2
+returns-2 c = search (needs, code-high)
+
+pub is-code-spec : {M : Type 1} → statement M
+is-code-spec = tie.close (tie.spec returns returns-2)

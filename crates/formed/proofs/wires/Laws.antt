@@ -1,0 +1,180 @@
+-- A law for each branch of the tests of the messages, over plain values.
+use mathlib.Core.Path.{_≡_, refl, sym, _∙_}
+use mathlib.Core.Bool.{Bool, true, false, not, and-true, and-false}
+use mathlib.Core.List.{List}
+use Prim.Native.Nat.{ℕ, _≤_, _<_}
+use lib.ListN.{getD}
+use lib.Dec.{ltb, eqb}
+use borrow.Author.Tests.{lt-ltb, le-ltb, eq-eqb, ne-eqb, not-true, not-false}
+use Rattle.base.specs.Sums.{one}
+use Rattle.table.specs.declared.Wire.{Wire}
+use Rattle.table.specs.declared.Message.{Message}
+use Rattle.table.specs.declared.Message.the-variants as msg
+use Rattle.table.specs.Formed.{isCode, isMode, due, messageFine, namesRightly, wireFine, isNothing, isBlankWire, isToken}
+use Rattle.formed.specs.declared.rooms.Standing.{Standing}
+use Rattle.formed.specs.Parts.{isGranted}
+use Rattle.formed.specs.Seen.{noStanding, roomsOf}
+use Rattle.formed.specs.Names.{wirePlaceFine, namedBy}
+
+-- the codes and the room number in a message
+module _ (n : ℕ) (m : Message) where
+  pub message-nothing : m ≡ msg.Nothing → false ≡ messageFine n m
+  unfolding messageFine
+  message-nothing e = rw e
+
+  module _ (o k : ℕ) (i : Bool) (e : m ≡ msg.Request o k i) where
+    pub message-past : n ≤ o → ltb o n ≡ messageFine n m
+    unfolding messageFine
+    message-past h = rw e (simp (le-ltb o n h))
+
+    pub message-request : o < n → (b : Bool) → b ≡ isMode k → b ≡ messageFine n m
+    unfolding messageFine
+    message-request h b p = rw e (simp (lt-ltb o n h) p)
+
+  pub message-grant : (k l : ℕ) → m ≡ msg.Grant k l → (b : Bool) → b ≡ isGranted k → b ≡ messageFine n m
+  unfolding messageFine isGranted
+  message-grant k l e b p = rw e p
+
+  module _ (k rest l : ℕ) (e : m ≡ msg.Token k rest l) (a : Bool) (p : a ≡ isMode k) where
+    pub message-none : a ≡ false → a ≡ messageFine n m
+    unfolding messageFine
+    message-none h = rw e (simp (h, sym p ∙ h))
+
+    pub message-token : a ≡ true → (b : Bool) → b ≡ isCode rest → b ≡ messageFine n m
+    unfolding messageFine
+    message-token h b q = rw e (simp (sym p ∙ h) q)
+
+  pub message-reduce : (l k : ℕ) → m ≡ msg.Reduce l k → (b : Bool) → b ≡ isCode k → b ≡ messageFine n m
+  unfolding messageFine
+  message-reduce l k e b p = rw e p
+
+-- the room that a message names
+module _ (rooms : List Standing) (to : ℕ) (m : Message) where
+  pub names-nothing : m ≡ msg.Nothing → true ≡ namesRightly (roomsOf rooms) to m
+  unfolding namesRightly
+  names-nothing e = rw e
+
+  pub names-reduce : (l k : ℕ) → m ≡ msg.Reduce l k → true ≡ namesRightly (roomsOf rooms) to m
+  unfolding namesRightly
+  names-reduce l k e = rw e
+
+  pub names-request : (o k : ℕ) (i : Bool) → m ≡ msg.Request o k i → (s : Standing) → s ≡ getD rooms o noStanding
+      → eqb (s .due) k ≡ namesRightly (roomsOf rooms) to m
+  unfolding namesRightly due
+  names-request o k i e s p = rw (e, p)
+
+  module _ (s : Standing) (p : s ≡ getD rooms to noStanding) where
+    module _ (k l : ℕ) (e : m ≡ msg.Grant k l) where
+      pub names-other : (s .due ≡ k → ⊥) → eqb (s .due) k ≡ namesRightly (roomsOf rooms) to m
+      unfolding namesRightly due
+      names-other h = rw (e, ← p) (simp (ne-eqb (s .due) k h))
+
+      pub names-grant : s .due ≡ k → not (s .token) ≡ namesRightly (roomsOf rooms) to m
+      unfolding namesRightly due
+      names-grant h = rw (e, ← p) (simp (eq-eqb (s .due) k h))
+
+    pub names-token : (k rest l : ℕ) → m ≡ msg.Token k rest l → eqb (s .due) k ≡ namesRightly (roomsOf rooms) to m
+    unfolding namesRightly due
+    names-token k rest l e = rw (e, ← p)
+
+-- a wire
+module _ (n : ℕ) (rooms : List Standing) (used : Bool) (w : Wire) where
+  pub wire-unused : not used ≡ true → (b : Bool) → b ≡ isBlankWire w → b ≡ wirePlaceFine n rooms used w
+  unfolding wirePlaceFine
+  wire-unused h b e = simp (not-true used h) e
+
+  module _ (h : not used ≡ false) where
+    pub wire-from : n ≤ w .«from» → false ≡ wirePlaceFine n rooms used w
+    unfolding wirePlaceFine wireFine
+    wire-from k = simp (not-false used h, le-ltb (w .«from») n k)
+
+    pub wire-to : n ≤ w .to → false ≡ wirePlaceFine n rooms used w
+    unfolding wirePlaceFine wireFine
+    wire-to k = simp (not-false used h, le-ltb (w .to) n k, and-false)
+
+    pub wire-self : w .«from» ≡ w .to → false ≡ wirePlaceFine n rooms used w
+    unfolding wirePlaceFine wireFine
+    wire-self k = simp (not-false used h, eq-eqb (w .«from») (w .to) k, and-false)
+
+    module _ (a : Bool) (e : a ≡ messageFine n (w .message)) where
+      pub wire-message : not a ≡ true → false ≡ wirePlaceFine n rooms used w
+      unfolding wirePlaceFine wireFine
+      wire-message k = simp (not-false used h, sym e ∙ not-true a k, and-false)
+
+      pub wire-names : w .«from» < n → w .to < n → (w .«from» ≡ w .to → ⊥) → not a ≡ false
+          → (b : Bool) → b ≡ namesRightly (roomsOf rooms) (w .to) (w .message) → b ≡ wirePlaceFine n rooms used w
+      unfolding wirePlaceFine wireFine
+      wire-names f k o p b q =
+          simp
+          (not-false used h, lt-ltb (w .«from») n f, lt-ltb (w .to) n k, ne-eqb (w .«from») (w .to) o, sym e ∙ not-false a p)
+          q
+
+-- a wire that is not in use, by its message
+module _ (w : Wire) where
+  module _ (e : w .message ≡ msg.Nothing) where
+    pub blank-from : (w .«from» ≡ 0 → ⊥) → eqb (w .«from») 0 ≡ isBlankWire w
+    unfolding isBlankWire
+    blank-from h = simp (ne-eqb (w .«from») 0 h)
+
+    pub blank-to : w .«from» ≡ 0 → eqb (w .to) 0 ≡ isBlankWire w
+    unfolding isBlankWire isNothing
+    blank-to h = simp (h, e, and-true)
+
+  pub blank-request : (o k : ℕ) (i : Bool) → w .message ≡ msg.Request o k i → false ≡ isBlankWire w
+  unfolding isBlankWire isNothing
+  blank-request o k i e = simp (e, and-false)
+
+  pub blank-grant : (k l : ℕ) → w .message ≡ msg.Grant k l → false ≡ isBlankWire w
+  unfolding isBlankWire isNothing
+  blank-grant k l e = simp (e, and-false)
+
+  pub blank-token : (k rest l : ℕ) → w .message ≡ msg.Token k rest l → false ≡ isBlankWire w
+  unfolding isBlankWire isNothing
+  blank-token k rest l e = simp (e, and-false)
+
+  pub blank-reduce : (l k : ℕ) → w .message ≡ msg.Reduce l k → false ≡ isBlankWire w
+  unfolding isBlankWire isNothing
+  blank-reduce l k e = simp (e, and-false)
+
+-- whom a message names, and the tokens in it
+module _ (to : ℕ) (m : Message) where
+  pub by-nothing : m ≡ msg.Nothing → 16 ≡ namedBy to m
+  unfolding namedBy
+  by-nothing e = rw e
+
+  pub by-request : (o k : ℕ) (i : Bool) → m ≡ msg.Request o k i → o ≡ namedBy to m
+  unfolding namedBy
+  by-request o k i e = rw e
+
+  pub by-grant : (k l : ℕ) → m ≡ msg.Grant k l → to ≡ namedBy to m
+  unfolding namedBy
+  by-grant k l e = rw e
+
+  pub by-token : (k rest l : ℕ) → m ≡ msg.Token k rest l → to ≡ namedBy to m
+  unfolding namedBy
+  by-token k rest l e = rw e
+
+  pub by-reduce : (l k : ℕ) → m ≡ msg.Reduce l k → 16 ≡ namedBy to m
+  unfolding namedBy
+  by-reduce l k e = rw e
+
+module _ (m : Message) where
+  pub tokens-nothing : m ≡ msg.Nothing → 0 ≡ one (isToken m)
+  unfolding isToken
+  tokens-nothing e = rw e
+
+  pub tokens-request : (o k : ℕ) (i : Bool) → m ≡ msg.Request o k i → 0 ≡ one (isToken m)
+  unfolding isToken
+  tokens-request o k i e = rw e
+
+  pub tokens-grant : (k l : ℕ) → m ≡ msg.Grant k l → 0 ≡ one (isToken m)
+  unfolding isToken
+  tokens-grant k l e = rw e
+
+  pub tokens-token : (k rest l : ℕ) → m ≡ msg.Token k rest l → 1 ≡ one (isToken m)
+  unfolding isToken
+  tokens-token k rest l e = rw e
+
+  pub tokens-reduce : (l k : ℕ) → m ≡ msg.Reduce l k → 0 ≡ one (isToken m)
+  unfolding isToken
+  tokens-reduce l k e = rw e

@@ -1,0 +1,48 @@
+-- What the queue and the messages name, and how often.
+use Prim.Native.Nat.{ℕ}
+use mathlib.Core.Bool.{Bool, true, false}
+use mathlib.Core.List.{List}
+use lib.ListN.{getD, take, replicate}
+use lib.Dec.{ltb, eqb}
+use Rattle.base.specs.Choice.{if_then_else_}
+use Rattle.base.specs.Below.{allBelow}
+use Rattle.base.specs.Sums.{one}
+use Rattle.base.specs.Lists.{count}
+use Rattle.room.specs.Limits.{roomLimit}
+use Rattle.table.specs.declared.Queued.{Queued}
+use Rattle.table.specs.declared.Wire.{Wire}
+use Rattle.table.specs.declared.Message.{Message}
+use Rattle.table.specs.declared.Message.the-variants as msg
+use Rattle.table.specs.Limits.{queueLimit}
+use Rattle.table.specs.Tables.{noQueued}
+use Rattle.table.specs.Formed.{queuedFine, isBlankQueued, wireFine, isBlankWire}
+use Rattle.formed.specs.declared.rooms.Standing.{Standing}
+use Rattle.formed.specs.declared.queue.Named.{Named}
+use Rattle.formed.specs.Listed.{listed}
+use Rattle.formed.specs.Seen.{noStanding, roomsOf}
+
+-- a place of the queue, and a wire: as it should be where it is in use, else blank
+unfoldable pub queuePlaceFine : ℕ → List Standing → Bool → Queued → Bool
+queuePlaceFine n rooms used q = if used then queuedFine n (roomsOf rooms) q else isBlankQueued q
+
+unfoldable pub wirePlaceFine : ℕ → List Standing → Bool → Wire → Bool
+wirePlaceFine n rooms used w = if used then wireFine n (roomsOf rooms) w else isBlankWire w
+
+-- what an array of places says, of which the first `queued` are in use: how often each room is named
+unfoldable pub namedIn : ℕ → List Standing → List Queued → ℕ → Named
+namedIn n rooms queue queued =
+    if allBelow queueLimit (λ i. queuePlaceFine n rooms (ltb i queued) (getD queue i noQueued))
+    then record { fine = true; times = listed roomLimit (λ c. count (λ q. eqb (q .room) c) (take queued queue)) }
+    else record { fine = false; times = replicate roomLimit 0 }
+
+-- the room that a message to this room names; where it names none, the limit, which no room's number reaches
+unfoldable pub namedBy : ℕ → Message → ℕ
+namedBy to msg.Nothing = roomLimit
+namedBy to (msg.Request o m idle) = o
+namedBy to (msg.Grant m l) = to
+namedBy to (msg.Token m rest l) = to
+namedBy to (msg.Reduce l m) = roomLimit
+
+-- each of n rooms is named once if it waits, else never
+unfoldable pub timesFine : ℕ → List Standing → List ℕ → Bool
+timesFine n rooms times = allBelow n (λ c. eqb (getD times c 0) (one (ltb 0 (getD rooms c noStanding .due))))

@@ -1,0 +1,39 @@
+-- Parts of the tests of rooms and messages that have a function each.
+use Prim.Native.Nat.{ℕ}
+use mathlib.Core.Bool.{Bool, not, _&&_, _||_, Bool·beq}
+use mathlib.Core.List.{List}
+use lib.ListN.{getD}
+use lib.Dec.{ltb, eqb}
+use Rattle.base.specs.Choice.{if_then_else_}
+use Rattle.base.specs.Tests.{_implies_}
+use Rattle.base.specs.Below.{allBelow}
+use Rattle.modes.specs.Codes.{IR, R, U, IW, W}
+use Rattle.room.specs.declared.Room.{Room}
+use Rattle.room.specs.declared.Entry.{Entry}
+use Rattle.room.specs.Limits.{roomLimit, nobody}
+use Rattle.room.specs.Record.{noEntry}
+use Rattle.table.specs.Formed.{isCode, entryFine, roomFine, isBlankRoom}
+
+-- "GRANT modes only IR, R, IW"
+unfoldable pub isGranted : ℕ → Bool
+isGranted m = eqb m IR || eqb m R || eqb m IW
+
+-- the held and the wanted mode
+unfoldable pub holdsRightly : ℕ → ℕ → Bool → Bool
+holdsRightly held wanted token =
+    isCode held && isCode wanted && ((eqb held U || eqb held W) implies token)
+    && (eqb held 0 || eqb wanted 0 || eqb held U && eqb wanted W)
+
+-- the lender, the credit and the link number of room c of n
+unfoldable pub owesRightly : ℕ → ℕ → Room → Bool
+owesRightly n c r =
+    isCode (r .credit) && (eqb (r .lender) nobody || ltb (r .lender) n) && not (eqb (r .lender) c)
+    && (eqb (r .lender) nobody implies eqb (r .link) 0) && Bool·beq (eqb (r .lender) nobody) (eqb (r .credit) 0)
+    && (r .token implies eqb (r .lender) nobody)
+
+unfoldable pub entriesFine : ℕ → ℕ → List Entry → Bool
+entriesFine n c entries = allBelow roomLimit (λ j. entryFine n c j (getD entries j noEntry))
+
+-- the record at place c of the array: as it should be where the place is in use, else blank
+unfoldable pub placeFine : ℕ → ℕ → Room → Bool
+placeFine n c r = if ltb c n then roomFine n c r else isBlankRoom r

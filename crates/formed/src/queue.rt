@@ -1,0 +1,68 @@
+// The places of the queue: each names a waiting room, or is blank.
+ghost use mathlib.Core.Path.{_≡_};
+ghost use Rattle.base.specs.Choice.{if_then_else_};
+ghost use Rattle.room.specs.Limits.{roomLimit};
+ghost use Rattle.formed.specs.Names.{queuePlaceFine, namedIn};
+
+use modes::NONE;
+use room::ROOMS;
+use table::QUEUE;
+use table::Queued;
+
+use super::ranges::is_mode;
+use super::rooms::Standing;
+use super::rooms::standing_at;
+
+// Whether all places are as they should be; if so, how often each room is named.
+pub struct Named {
+    pub fine: bool,
+    pub times: [usize; ROOMS],
+}
+
+// A place: where it is in use it names a waiting room of the n, with its mode; else it is blank.
+fn place_fine(n: u8, rooms: [Standing; ROOMS], used: bool, q: Queued) -> bool
+    ensures { λ b. ⌜ b ≡ queuePlaceFine n rooms used q ⌝ }
+{
+    if !used {
+        return q.room == 0 && q.mode == NONE;
+    }
+    if q.room >= n {
+        return false;
+    }
+    if !is_mode(q.mode) {
+        return false;
+    }
+    let room = standing_at(rooms, q.room);
+    room.due == q.mode
+}
+
+// The room that a place names, and ROOMS for none.
+fn named_by(used: bool, q: Queued) -> usize
+    ensures { λ r. ⌜ r ≡ (if used then q .room else roomLimit) ⌝ }
+{
+    if used {
+        return q.room as usize;
+    }
+    ROOMS
+}
+
+// All the places, of which the first `queued` are in use.
+pub fn look_over(n: u8, rooms: [Standing; ROOMS], queue: [Queued; QUEUE], queued: usize) -> Named
+    ensures { λ r. ⌜ r ≡ namedIn n rooms queue queued ⌝ }
+{
+    let none: [usize; ROOMS] = [0; ROOMS];
+    let mut times = none;
+    let mut i: usize = 0;
+    while i < QUEUE {
+        let q = queue[i];
+        if !place_fine(n, rooms, i < queued, q) {
+            return Named { fine: false, times: none };
+        }
+        let at = named_by(i < queued, q);
+        if at < ROOMS {
+            times[at] += 1;
+        }
+        i += 1;
+    }
+    Named { fine: true, times: times }
+}

@@ -1,0 +1,108 @@
+// The messages: what each holds and names, and wires that are blank.
+ghost use mathlib.Core.Path.{_≡_};
+ghost use Rattle.base.specs.Sums.{one};
+ghost use Rattle.table.specs.Formed.{messageFine, namesRightly, isBlankWire, isToken};
+ghost use Rattle.formed.specs.Seen.{roomsOf};
+ghost use Rattle.formed.specs.Names.{wirePlaceFine, namedBy};
+
+use room::ROOMS;
+use table::Message;
+use table::Wire;
+
+use super::ranges::is_code;
+use super::ranges::is_granted;
+use super::ranges::is_mode;
+use super::rooms::Standing;
+use super::rooms::standing_at;
+
+// The codes and the room number in a message.
+fn message_fine(n: u8, message: Message) -> bool
+    ensures { λ b. ⌜ b ≡ messageFine n message ⌝ }
+{
+    match message {
+        Message::Nothing => false,
+        Message::Request { origin, mode, .. } => origin < n && is_mode(mode),
+        Message::Grant { mode, .. } => is_granted(mode),
+        Message::Token { mode, rest, .. } => is_mode(mode) && is_code(rest),
+        Message::Reduce { mode, .. } => is_code(mode),
+    }
+}
+
+// A room that a message to this room names waits for the message's mode.
+fn names_rightly(rooms: [Standing; ROOMS], to: u8, message: Message) -> bool
+    ensures { λ b. ⌜ b ≡ namesRightly (roomsOf rooms) to message ⌝ }
+{
+    let room = standing_at(rooms, to);
+    match message {
+        Message::Nothing => true,
+        Message::Request { origin, mode, .. } => standing_at(rooms, origin).due == mode,
+        Message::Grant { mode, .. } => room.due == mode && !room.token,
+        Message::Token { mode, .. } => room.due == mode,
+        Message::Reduce { .. } => true,
+    }
+}
+
+// A wire that is not in use.
+fn wire_blank(w: Wire) -> bool
+    ensures { λ b. ⌜ b ≡ isBlankWire w ⌝ }
+{
+    let message = w.message;
+    match message {
+        Message::Nothing => w.from == 0 && w.to == 0,
+        Message::Request { .. } => false,
+        Message::Grant { .. } => false,
+        Message::Token { .. } => false,
+        Message::Reduce { .. } => false,
+    }
+}
+
+// A wire: where it is in use it goes from one of n rooms to another, with a message as it should be; else it is blank.
+pub fn wire_fine(n: u8, rooms: [Standing; ROOMS], used: bool, w: Wire) -> bool
+    ensures { λ b. ⌜ b ≡ wirePlaceFine n rooms used w ⌝ }
+{
+    if !used {
+        return wire_blank(w);
+    }
+    if w.from >= n {
+        return false;
+    }
+    if w.to >= n {
+        return false;
+    }
+    if w.from == w.to {
+        return false;
+    }
+    let message = w.message;
+    if !message_fine(n, message) {
+        return false;
+    }
+    names_rightly(rooms, w.to, message)
+}
+
+// The room that a message names, and ROOMS for none.
+pub fn named_by(w: Wire) -> usize
+    ensures { λ r. ⌜ r ≡ namedBy (w .to) (w .message) ⌝ }
+{
+    let message = w.message;
+    match message {
+        Message::Nothing => ROOMS,
+        Message::Request { origin, .. } => origin as usize,
+        Message::Grant { .. } => w.to as usize,
+        Message::Token { .. } => w.to as usize,
+        Message::Reduce { .. } => ROOMS,
+    }
+}
+
+// How many tokens a message carries.
+pub fn tokens_in(w: Wire) -> usize
+    ensures { λ r. ⌜ r ≡ one (isToken (w .message)) ⌝ }
+{
+    let message = w.message;
+    match message {
+        Message::Nothing => 0,
+        Message::Request { .. } => 0,
+        Message::Grant { .. } => 0,
+        Message::Token { .. } => 1,
+        Message::Reduce { .. } => 0,
+    }
+}
