@@ -17,15 +17,14 @@ use Rattle.facts.specs.Extra.{padded-high}
 use Rattle.table.specs.declared.Table.{Table}
 use Rattle.table.specs.declared.Wire.{Wire}
 use Rattle.table.specs.declared.Queued.{Queued}
-use Rattle.table.specs.declared.Answer.{Answer}
 use Rattle.table.specs.Limits.{queueLimit, wireLimit}
-use Rattle.table.specs.Tables.{noWire, noQueued, messagesOf, answer}
+use Rattle.table.specs.Tables.{noWire, noQueued, messagesOf}
 use Rattle.rules.specs.Work.{Work}
-use Rattle.rules.specs.Step.{after, outcome}
+use Rattle.rules.specs.Step.{after}
 use Rattle.act.specs.Desk.{placeLimit, outLimit}
 use Rattle.act.specs.declared.Done.{Done}
 use Rattle.act.specs.Done.{doneOf}
-use Rattle.step.specs.Finish.{without, Takes}
+use Rattle.step.specs.Writes.{without, Takes}
 
 -- an element of two lists in a row, past the first
 getD-right : (xs ys : List Wire) (j : ℕ) → length xs ≤ j → getD (xs ++ ys) j noWire ≡ getD ys (j - length xs) noWire

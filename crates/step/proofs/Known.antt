@@ -24,6 +24,8 @@ use Rattle.act.specs.Desk.{outLimit}
 use Rattle.act.specs.declared.Done.{Done}
 use Rattle.act.specs.Done.{doneOf}
 use Rattle.act.proofs.Done.{the-row}
+use Rattle.step.specs.declared.plan.Plan.{Plan}
+use Rattle.step.proofs.plan.Plan as plans
 
 -- the outbox, field 3, is as long as its type says
 pub out-long : (d : Done) {vs : List Val} → Is the-row d vs → length (d .out) ≡ outLimit
@@ -55,3 +57,7 @@ shaped t g =
       { rooms = long; queue = queue-long t g; wires = wires-long t g
       ; entries = λ c h. each-known _ _ (λ (r : Room). length (r .entries) ≡ roomLimit) noRoom
           (λ v us s. simp length-map at (s .1 .1 .1 .1 .1 .1 .1 .1 .1 .1 .0 .1 .0 .1)) (t .rooms) _ (g .1 .1 .1 .0 .1 .1) c (omega arith) }
+
+-- the outbox of what a plan has done
+pub plan-out-long : (p : Plan) {vs : List Val} → Is plans.the-row p vs → length (p .done .out) ≡ outLimit
+plan-out-long p g = simp length-map at (g .1 .1 .1 .1 .1 .1 .0 .1 .1 .1 .1 .1 .0 .1 .0 .1)

@@ -1,5 +1,6 @@
--- WORN, FULL or done: what the code's end answers is the outcome.
+-- WORN, FULL or done: what is given back for a plan is what the rules give.
 use mathlib.Core.Path.{_≡_, refl, sym, _∙_, ap}
+use mathlib.Core.Logic.{_≢_, _⊎_, inl, inr}
 use mathlib.Core.Bool.{Bool, true, false}
 use mathlib.Core.List.{List, _++_, append-nil}
 use Prim.Native.Nat.{ℕ, suc, _+_, _-_, _≤_, _<_}
@@ -7,18 +8,21 @@ use native.Mathlib.Numerals.{add-one}
 use native.Mathlib.Omega.{arith}
 use lib.ListN.{length, take, drop, drop-of-length-le}
 use lib.Seq.{length-take-le, take-all}
-use borrow.Author.Tests.{lt-ltb, le-ltb}
-use Rattle.base.specs.Choice.{if_then_else_}
+use borrow.Author.Tests.{lt-ltb, le-ltb, ne-eqb}
+use Rattle.base.specs.Choice.{if_then_else_, split}
+use Rattle.base.specs.Sums.{same?, below?}
 use Rattle.base.specs.Lists.{remove, remove-split}
 use Rattle.table.specs.declared.Table.{Table}
-use Rattle.table.specs.declared.Answer.{Answer}
 use Rattle.table.specs.Limits.{wireLimit}
 use Rattle.table.specs.Tables.{messagesOf, answer}
 use Rattle.rules.specs.Work.{Work}
-use Rattle.rules.specs.Step.{after, outcome}
+use Rattle.rules.specs.declared.Event.{Event}
+use Rattle.rules.specs.Step.{after, outcome, stepOf}
 use Rattle.act.specs.declared.Done.{Done}
 use Rattle.act.specs.Done.{doneOf}
-use Rattle.step.specs.Finish.{without, Takes, Writes, Finishes}
+use Rattle.step.specs.Writes.{without, Takes, Writes}
+use Rattle.step.specs.declared.plan.Plan.{Plan}
+use Rattle.step.specs.Plans.{endingOf, Made, Plans}
 use Rattle.step.proofs.Ending.{length-spliced}
 
 -- the messages without none of them, and without one
@@ -35,25 +39,104 @@ module _ (t : Table) (long : length (t .wires) ≡ wireLimit) (few : t .count �
   pub without-one : (k : ℕ) → without t k 1 ≡ remove k (messagesOf t)
   without-one k = sym (remove-split k (messagesOf t) ∙ ap (λ (j : ℕ). take k (messagesOf t) ++ drop j (messagesOf t)) (sym (add-one k)))
 
-module _ (t : Table) (me place gap : ℕ) (d : Done) where
-  pub outcome-worn : d .worn ≡ true → Finishes t me place gap d (answer 10 t)
+-- what was done, as an outcome: WORN, FULL or the table that is written
+module _ (t : Table) (me place gap : ℕ) (k : Takes t me place gap) (long : length (t .wires) ≡ wireLimit) (d : Done) (w : Work) (e : d ≡ doneOf w) where
+  total : length (without t place gap ++ w .sent) ≡ t .count - gap + d .sent
+  total =
+      let every : length (messagesOf t) ≡ t .count = length-take-le (t .count) (t .wires) (omega (arith, k .count)) in
+      omega (arith, length-spliced (messagesOf t) (w .sent) place gap (omega (arith, k .low)), ap (λ (x : Done). x .sent) e)
+
+  worn : w .worn ≡ d .worn
+  worn = sym (ap (λ (x : Done). x .worn) e)
+
+  pub outcome-worn : d .worn ≡ true → answer 10 t ≡ outcome t (without t place gap) w
   unfolding outcome
-  outcome-worn h w own few e = sym (simp (sym (ap (λ (x : Done). x .worn) e) ∙ h))
+  outcome-worn h = sym (simp (worn ∙ h))
 
-  module _ (k : Takes t me place gap) (long : length (t .wires) ≡ wireLimit) (free : d .worn ≡ false) where
-    total : (w : Work) → d ≡ doneOf w → length (without t place gap ++ w .sent) ≡ t .count - gap + d .sent
-    total w e =
-        let every : length (messagesOf t) ≡ t .count = length-take-le (t .count) (t .wires) (omega (arith, k .count)) in
-        omega (arith, length-spliced (messagesOf t) (w .sent) place gap (omega (arith, k .low)), ap (λ (x : Done). x .sent) e)
-
-    pub outcome-full : wireLimit - (t .count - gap) < d .sent → Finishes t me place gap d (answer 11 t)
+  module _ (free : d .worn ≡ false) where
+    pub outcome-full : wireLimit - (t .count - gap) < d .sent → answer 11 t ≡ outcome t (without t place gap) w
     unfolding outcome
-    outcome-full h w own few e =
-        let over : wireLimit < length (without t place gap ++ w .sent) = omega (arith, total w e, k .count) in
-        sym (simp (sym (ap (λ (x : Done). x .worn) e) ∙ free, lt-ltb _ _ over))
+    outcome-full h =
+        let over : wireLimit < length (without t place gap ++ w .sent) = omega (arith, total, k .count) in
+        sym (simp (worn ∙ free, lt-ltb _ _ over))
 
-    pub outcome-done : d .sent ≤ wireLimit - (t .count - gap) → (u : Table) → Writes t me place gap d u → Finishes t me place gap d (answer 0 u)
+    pub outcome-done : d .sent ≤ wireLimit - (t .count - gap) → (u : Table) → u ≡ after t (without t place gap) w → answer 0 u ≡ outcome t (without t place gap) w
     unfolding outcome
-    outcome-done h u s w own few e =
-        let under : length (without t place gap ++ w .sent) ≤ wireLimit = omega (arith, total w e, k .count) in
-        ap (answer 0) (s w own few e) ∙ sym (simp (sym (ap (λ (x : Done). x .worn) e) ∙ free, le-ltb _ _ under))
+    outcome-done h u s =
+        let under : length (without t place gap ++ w .sent) ≤ wireLimit = omega (arith, total, k .count) in
+        ap (answer 0) s ∙ sym (simp (worn ∙ free, le-ltb _ _ under))
+
+-- the branches of the number that is given back
+module _ (count : ℕ) (p : Plan) where
+  pub ending-own : (p .«number» ≡ 0 → ⊥) → p .«number» ≡ endingOf count p
+  unfolding endingOf
+  ending-own h = simp (ne-eqb _ _ h)
+
+  module _ (z : p .«number» ≡ 0) where
+    pub ending-worn : p .done .worn ≡ true → 10 ≡ endingOf count p
+    unfolding endingOf
+    ending-worn h = simp (z, h)
+
+    module _ (free : p .done .worn ≡ false) where
+      pub ending-full : wireLimit - (count - p .gap) < p .done .sent → 11 ≡ endingOf count p
+      unfolding endingOf
+      ending-full h = simp (z, free, lt-ltb _ _ h)
+
+      pub ending-done : p .done .sent ≤ wireLimit - (count - p .gap) → 0 ≡ endingOf count p
+      unfolding endingOf
+      ending-done h = simp (z, free, le-ltb _ _ h)
+
+-- from a plan to the step
+module _ (t : Table) (e : Event) (p : Plan) (s : Plans t e p) (long : length (t .wires) ≡ wireLimit) (k : ℕ) (h : k ≡ endingOf (t .count) p) where
+  -- a plan whose end is 0 is made, has worn nothing out and has room for what it sends
+  record Ends : Type 0 where
+    zero : p .«number» ≡ 0
+    free : p .done .worn ≡ false
+    fits : p .done .sent ≤ wireLimit - (t .count - p .gap)
+
+  -- each end is a refusal that the rules give, or such a plan
+  ends : ((answer k t ≡ stepOf t e) × (k ≡ 0 → ⊥)) ⊎ Ends
+  ends = go (same? (p .«number») 0)
+    where
+      over : (m : Made t e p) → (z : p .«number» ≡ 0) → p .done .worn ≡ false → (wireLimit - (t .count - p .gap) < p .done .sent) ⊎ (p .done .sent ≤ wireLimit - (t .count - p .gap))
+          → ((answer k t ≡ stepOf t e) × (k ≡ 0 → ⊥)) ⊎ Ends
+      over m z f (inl b) =
+          let n : k ≡ 11 = h ∙ sym (ending-full (t .count) p z f b) in
+          inl (rw n (outcome-full t (p .me) (p .place) (p .gap) (m .takes) long (p .done) (m .work) (m .done) f b ∙ m .step), λ q. omega arith)
+      over m z f (inr b) = inr (record { zero = z; free = f; fits = b })
+
+      go : (p .«number» ≡ 0) ⊎ (p .«number» ≢ 0) → ((answer k t ≡ stepOf t e) × (k ≡ 0 → ⊥)) ⊎ Ends
+      go (inr z) = let n : k ≡ p .«number» = h ∙ sym (ending-own (t .count) p z) in inl (rw n (s .refused z), λ q. z (sym n ∙ q))
+      go (inl z) =
+          let m = s .made z in
+          split (p .done .worn)
+          (λ f. let n : k ≡ 10 = h ∙ sym (ending-worn (t .count) p z f) in
+            inl (rw n (outcome-worn t (p .me) (p .place) (p .gap) (m .takes) long (p .done) (m .work) (m .done) f ∙ m .step), λ q. omega arith))
+          (λ f. over m z f (below? (wireLimit - (t .count - p .gap)) (p .done .sent)))
+
+  pub step-refused : (k ≡ 0 → ⊥) → answer k t ≡ stepOf t e
+  step-refused z = go ends
+    where
+      go : ((answer k t ≡ stepOf t e) × (k ≡ 0 → ⊥)) ⊎ Ends → answer k t ≡ stepOf t e
+      go (inl r) = r .0
+      go (inr q) = absurd (z (h ∙ sym (ending-done (t .count) p (q .zero) (q .free) (q .fits))))
+
+  module _ (z : k ≡ 0) where
+    ended : Ends
+    ended = go ends
+      where
+        go : ((answer k t ≡ stepOf t e) × (k ≡ 0 → ⊥)) ⊎ Ends → Ends
+        go (inl r) = absurd (r .1 z)
+        go (inr q) = q
+
+    made : Made t e p
+    made = s .made (ended .zero)
+
+    pub step-takes : Takes t (p .me) (p .place) (p .gap) × (p .done .sent ≤ 19) × (p .done .sent + t .count ≤ wireLimit + p .gap)
+    step-takes = (made .takes, made .sent, omega (arith, ended .fits, made .takes .count, made .takes .low))
+
+    pub step-made : (u : Table) → Writes t (p .me) (p .place) (p .gap) (p .done) u → answer 0 u ≡ stepOf t e
+    step-made u wr =
+        outcome-done t (p .me) (p .place) (p .gap) (made .takes) long (p .done) (made .work) (made .done) (ended .free) (ended .fits) u
+        (wr (made .work) (made .me) (made .few) (made .done))
+        ∙ made .step

@@ -22,7 +22,6 @@ use Rattle.rules.specs.Work.{workAt}
 use Rattle.rules.specs.Rules.{ask, upgrade, handBack, receive}
 use Rattle.rules.specs.Refusals.{first, refusals, refusal, isFound, anyWorn}
 use Rattle.rules.specs.Step.{outcome, delivered, made, stepOf}
-use Rattle.step.specs.Passing.{AskPasses}
 
 module _ (t : Table) (e : Event) where
   pub refused-table : wellFormed t ≡ false → answer 1 t ≡ stepOf t e
@@ -66,9 +65,17 @@ module _ (t : Table) (e : Event) where
               ask-busy h =
                   simp (f, k, lt-leb _ _ low, le-leb 1 _ some, le-leb _ 5 code, eq-eqb _ _ free, eq-eqb _ _ empty, le-leb _ _ h)
 
-              pub ask-passes : t .count < busyLimit → AskPasses t e
-              ask-passes h =
-                  record { formed = f; kind = k; «room» = low; mode = some; code = code; free = free; empty = empty; few = h }
+              module _ (few : t .count < busyLimit) where
+                pub ask-worn : allBelow (t .n) (λ c. ltb (roomAt t c .counter) wornLimit) ≡ false → answer 10 t ≡ stepOf t e
+                unfolding stepOf refusal refusals first anyWorn
+                ask-worn h =
+                    simp (f, k, lt-leb _ _ low, le-leb 1 _ some, le-leb _ 5 code, eq-eqb _ _ free, eq-eqb _ _ empty, lt-leb _ _ few, h)
+
+                pub ask-made : allBelow (t .n) (λ c. ltb (roomAt t c .counter) wornLimit) ≡ true
+                    → outcome t (messagesOf t) (ask (workAt t (e .room)) (e .mode)) ≡ stepOf t e
+                unfolding stepOf refusal refusals first anyWorn made
+                ask-made h =
+                    simp (f, k, lt-leb _ _ low, le-leb 1 _ some, le-leb _ 5 code, eq-eqb _ _ free, eq-eqb _ _ empty, lt-leb _ _ few, h)
 
     -- UPGRADE
     module _ (k : e .kind ≡ 1) where
@@ -130,15 +137,3 @@ module _ (t : Table) (e : Event) where
               → outcome t (remove j (messagesOf t)) (receive (workAt t (e .other)) (e .room) x) ≡ stepOf t e
           unfolding stepOf refusal refusals first isFound made delivered
           deliver-made j x h = simp (f, k, lt-leb _ _ low, lt-leb _ _ near, sym s ∙ h)
-
--- ASK, past every other test
-module _ (t : Table) (e : Event) (p : AskPasses t e) where
-  pub ask-worn : allBelow (t .n) (λ c. ltb (roomAt t c .counter) wornLimit) ≡ false → answer 10 t ≡ stepOf t e
-  unfolding stepOf refusal refusals first anyWorn
-  ask-worn h =
-      simp (p .formed, p .kind, lt-leb _ _ (p .«room»), le-leb 1 _ (p .mode), le-leb _ 5 (p .code), eq-eqb _ _ (p .free), eq-eqb _ _ (p .empty), lt-leb _ _ (p .few), h)
-
-  pub ask-made : allBelow (t .n) (λ c. ltb (roomAt t c .counter) wornLimit) ≡ true → outcome t (messagesOf t) (ask (workAt t (e .room)) (e .mode)) ≡ stepOf t e
-  unfolding stepOf refusal refusals first anyWorn made
-  ask-made h =
-      simp (p .formed, p .kind, lt-leb _ _ (p .«room»), le-leb 1 _ (p .mode), le-leb _ 5 (p .code), eq-eqb _ _ (p .free), eq-eqb _ _ (p .empty), lt-leb _ _ (p .few), h)

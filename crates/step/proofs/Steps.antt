@@ -1,4 +1,4 @@
--- From what a room has done to the outcome of the step: each event's end on a well formed table.
+-- From what a room has done to the plan of the step: each event on a well formed table.
 use mathlib.Core.Path.{_≡_, refl, sym, _∙_, ap}
 use mathlib.Core.Bool.{true}
 use mathlib.Core.List.{List}
@@ -10,22 +10,25 @@ use Rattle.base.specs.Lists.{remove}
 use Rattle.room.specs.Limits.{roomLimit}
 use Rattle.table.specs.declared.Table.{Table}
 use Rattle.table.specs.declared.Wire.{Wire}
-use Rattle.table.specs.declared.Answer.{Answer}
 use Rattle.table.specs.declared.Message.{Message}
 use Rattle.table.specs.declared.Found.the-variants as found
 use Rattle.table.specs.Limits.{queueLimit}
-use Rattle.table.specs.Tables.{roomAt, queueOf, messagesOf}
+use Rattle.table.specs.Tables.{roomAt, messagesOf, answer}
 use Rattle.table.specs.Oldest.{oldestOf}
 use Rattle.table.specs.Formed.{wellFormed}
 use Rattle.facts.specs.Shapes.{Shaped}
 use Rattle.facts.specs.Whole.{WellFormed, facts-of}
 use Rattle.facts.specs.Search.{oldest-low}
+use Rattle.rules.specs.declared.Event.{Event}
 use Rattle.rules.specs.Work.{Work, workAt}
 use Rattle.rules.specs.Rules.{ask, upgrade, handBack, receive}
-use Rattle.rules.specs.Step.{outcome}
+use Rattle.rules.specs.Step.{outcome, stepOf}
+use Rattle.act.specs.Desk.{outLimit}
 use Rattle.act.specs.declared.Done.{Done}
 use Rattle.act.specs.Done.{doneOf}
-use Rattle.step.specs.Finish.{without, Takes, Finishes}
+use Rattle.step.specs.declared.plan.Plan.{Plan}
+use Rattle.step.specs.Writes.{without, Takes}
+use Rattle.step.specs.Plans.{refusedPlan, Made, Plans}
 use Rattle.step.proofs.Outcomes.{without-none, without-one}
 use Rattle.step.proofs.Queues.{Grows, ask-grows, upgrade-grows, hand-back-grows, receive-grows}
 use Rattle.step.proofs.Places.{queue-fits, asks-place, receive-place}
@@ -47,26 +50,46 @@ module _ (t : Table) (s : Shaped t) (f : wellFormed t ≡ true) where
       let all = length-take-le (t .count) (t .wires) (omega (arith, facts .count, s .wires)) in
       record { one = omega arith; low = omega arith; count = facts .count; acts = room-low b h; blank = facts .wires-blank }
 
-  module _ (x : ℕ) (d : Done) (r : Answer) where
-    -- an event that takes no message
-    ends : Finishes t x (t .count) 0 d r → (w : Work) (most : ℕ) → Grows most (workAt t x) w → most ≤ queueLimit → d ≡ doneOf w → r ≡ outcome t (messagesOf t) w
-    ends h w most g k e =
-        h w (g .me) (omega (arith, g .queue)) e ∙ ap (λ (l : List Wire). outcome t l w) (without-none t (s .wires) (facts .count))
+  -- an event of room x that takes no message
+  module _ (e : Event) (x : ℕ) (low : x < t .n) (d : Done) (sent : d .sent ≤ outLimit) where
+    plans : (w : Work) (most : ℕ) → Grows most (workAt t x) w → most ≤ queueLimit → d ≡ doneOf w → outcome t (messagesOf t) w ≡ stepOf t e
+        → Plans t e (record { «number» = 0; me = x; place = t .count; gap = 0; done = d })
+    plans w most g k p q =
+        record
+          { refused = λ z. absurd (z refl)
+          ; made = λ z. record
+              { work = w; me = g .me; few = omega (arith, g .queue); done = p; sent = sent; takes = takes-none x low
+              ; step = ap (λ (l : List Wire). outcome t l w) (without-none t (s .wires) (facts .count)) ∙ q } }
 
-    pub ask-ends : (m : ℕ) → x < t .n → roomAt t x .wanted ≡ 0 → roomAt t x .held ≡ 0 → Finishes t x (t .count) 0 d r
-        → d ≡ doneOf (ask (workAt t x) m) → r ≡ outcome t (messagesOf t) (ask (workAt t x) m)
-    ask-ends m low free empty h = ends h (ask (workAt t x) m) _ (ask-grows (workAt t x) m) (omega (arith, asks-place t s f x low free empty))
+    pub ask-plans : (m : ℕ) → roomAt t x .wanted ≡ 0 → roomAt t x .held ≡ 0 → d ≡ doneOf (ask (workAt t x) m)
+        → outcome t (messagesOf t) (ask (workAt t x) m) ≡ stepOf t e → Plans t e (record { «number» = 0; me = x; place = t .count; gap = 0; done = d })
+    ask-plans m free empty = plans (ask (workAt t x) m) _ (ask-grows (workAt t x) m) (omega (arith, asks-place t s f x low free empty))
 
-    pub upgrade-ends : Finishes t x (t .count) 0 d r → d ≡ doneOf (upgrade (workAt t x)) → r ≡ outcome t (messagesOf t) (upgrade (workAt t x))
-    upgrade-ends h = ends h (upgrade (workAt t x)) _ (upgrade-grows (workAt t x)) (queue-fits t s f)
+    pub upgrade-plans : d ≡ doneOf (upgrade (workAt t x)) → outcome t (messagesOf t) (upgrade (workAt t x)) ≡ stepOf t e
+        → Plans t e (record { «number» = 0; me = x; place = t .count; gap = 0; done = d })
+    upgrade-plans = plans (upgrade (workAt t x)) _ (upgrade-grows (workAt t x)) (queue-fits t s f)
 
-    pub back-ends : Finishes t x (t .count) 0 d r → d ≡ doneOf (handBack (workAt t x)) → r ≡ outcome t (messagesOf t) (handBack (workAt t x))
-    back-ends h = ends h (handBack (workAt t x)) _ (hand-back-grows (workAt t x)) (queue-fits t s f)
+    pub back-plans : d ≡ doneOf (handBack (workAt t x)) → outcome t (messagesOf t) (handBack (workAt t x)) ≡ stepOf t e
+        → Plans t e (record { «number» = 0; me = x; place = t .count; gap = 0; done = d })
+    back-plans = plans (handBack (workAt t x)) _ (hand-back-grows (workAt t x)) (queue-fits t s f)
 
-    -- a delivery
-    pub deliver-ends : (a k : ℕ) (m : Message) → oldestOf t a x ≡ found.At k m → Finishes t x k 1 d r → d ≡ doneOf (receive (workAt t x) a m)
-        → r ≡ outcome t (remove k (messagesOf t)) (receive (workAt t x) a m)
-    deliver-ends a k m o h e =
-        let g = receive-grows (workAt t x) a m in
-        h (receive (workAt t x) a m) (g .me) (omega (arith, g .queue, receive-place t s f a x k m o)) e
-        ∙ ap (λ (l : List Wire). outcome t l (receive (workAt t x) a m)) (without-one t (s .wires) (facts .count) k)
+  -- a delivery at room b
+  pub deliver-plans : (e : Event) (a b : ℕ) → b < t .n → (d : Done) → d .sent ≤ outLimit → (k : ℕ) (m : Message) → oldestOf t a b ≡ found.At k m
+      → d ≡ doneOf (receive (workAt t b) a m) → outcome t (remove k (messagesOf t)) (receive (workAt t b) a m) ≡ stepOf t e
+      → Plans t e (record { «number» = 0; me = b; place = k; gap = 1; done = d })
+  deliver-plans e a b low d sent k m o p q =
+      let g = receive-grows (workAt t b) a m in
+      record
+        { refused = λ z. absurd (z refl)
+        ; made = λ z. record
+            { work = receive (workAt t b) a m; me = g .me; few = omega (arith, g .queue, receive-place t s f a b k m o); done = p; sent = sent
+            ; takes = takes-one a b k m low o
+            ; step = ap (λ (l : List Wire). outcome t l (receive (workAt t b) a m)) (without-one t (s .wires) (facts .count) k) ∙ q } }
+
+-- a refusal that the rules give is a plan
+pub refused-plans : (t : Table) (e : Event) (k : ℕ) → (k ≡ 0 → ⊥) → answer k t ≡ stepOf t e → (p : Plan) → p ≡ refusedPlan k → Plans t e p
+refused-plans t e k z h p q = rw q (record { refused = λ n. h; made = λ n. absurd (z n) })
+
+-- a plan that is made takes its message from the messages that there are
+pub plan-sizes : (t : Table) (e : Event) (p : Plan) → Plans t e p → p .«number» ≡ 0 → (p .gap ≤ t .count) × (t .count ≤ 256)
+plan-sizes t e p s z = let m = s .made z in (omega (arith, m .takes .low), m .takes .count)

@@ -1,2 +1,2 @@
-pub mod Passing
-pub mod Finish
+pub mod Writes
+pub mod Plans

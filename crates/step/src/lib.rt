@@ -1,18 +1,23 @@
-// The step: the first refusal that applies, or the table that the rules give. Nothing is written until the step is known to be made.
+// The step: the first refusal that applies, or the table that the rules give. What is to be done is planned on the table as it came;
+// nothing is written until the step is known to be made.
 ghost use mathlib.Core.Path.{_≡_};
 ghost use mathlib.Core.Bool.{true};
 ghost use Rattle.table.specs.Formed.{wellFormed};
 ghost use Rattle.rules.specs.Step.{stepOf};
-ghost use Rattle.step.specs.Passing.{AskPasses};
+ghost use Rattle.step.specs.Plans.{Plans};
 
-mod finish;
+mod plan;
+mod write;
 
 use act::Start;
-use finish::finish;
+use plan::ending;
+use plan::refused;
+use plan::Plan;
 use rules::Event;
 use table::Answer;
 use table::Found;
 use table::Table;
+use write::written;
 
 // The kinds of events.
 pub const ASK: u8 = 0;
@@ -25,123 +30,113 @@ pub const BUSY: usize = 96;
 // and from this counter on.
 pub const WORN: u32 = 4294967000;
 
-// ASK, once every other test is passed: some counter is worn, or the room asks.
-fn ask_unworn(t: Table, e: Event) -> Answer
-    requires { ⌜ AskPasses t e ⌝ }
-    ensures { λ r. ⌜ r ≡ stepOf t e ⌝ }
+// ASK.
+fn ask(t: Table, e: Event) -> Plan
+    requires { ⌜ (wellFormed t ≡ true) × (e .kind ≡ 0) ⌝ }
+    ensures { λ p. ⌜ Plans t e p ⌝ }
 {
+    if e.room >= t.n {
+        return refused(3);
+    }
+    let mode = e.mode;
+    match mode {
+        modes::IR..=modes::W => {}
+        _ => return refused(4),
+    }
+    let x = e.room as usize;
+    let room = t.rooms[x];
+    if room.wanted != modes::NONE {
+        return refused(5);
+    }
+    if room.held != modes::NONE {
+        return refused(6);
+    }
+    if t.count >= BUSY {
+        return refused(9);
+    }
     let n = t.n as usize;
     let mut i: usize = 0;
     while i < n {
         let r = t.rooms[i];
         if r.counter >= WORN {
-            return Answer { number: 10, table: t };
+            return refused(10);
         }
         i += 1;
     }
-    let x = e.room as usize;
-    let room = t.rooms[x];
     let queue = t.queue;
-    let done = act::ask(Start { me: e.room, room: room, queue: queue, queued: t.queued }, e.mode);
-    finish(t, e.room, t.count, 0, done)
-}
-
-// ASK.
-fn ask(t: Table, e: Event) -> Answer
-    requires { ⌜ (wellFormed t ≡ true) × (e .kind ≡ 0) ⌝ }
-    ensures { λ r. ⌜ r ≡ stepOf t e ⌝ }
-{
-    if e.room >= t.n {
-        return Answer { number: 3, table: t };
-    }
-    let mode = e.mode;
-    match mode {
-        modes::IR..=modes::W => {}
-        _ => return Answer { number: 4, table: t },
-    }
-    let x = e.room as usize;
-    let room = t.rooms[x];
-    if room.wanted != modes::NONE {
-        return Answer { number: 5, table: t };
-    }
-    if room.held != modes::NONE {
-        return Answer { number: 6, table: t };
-    }
-    if t.count >= BUSY {
-        return Answer { number: 9, table: t };
-    }
-    ask_unworn(t, e)
+    let done = act::ask(Start { me: e.room, room: room, queue: queue, queued: t.queued }, mode);
+    Plan { number: 0, me: e.room, place: t.count, gap: 0, done: done }
 }
 
 // UPGRADE.
-fn upgrade(t: Table, e: Event) -> Answer
+fn upgrade(t: Table, e: Event) -> Plan
     requires { ⌜ (wellFormed t ≡ true) × (e .kind ≡ 1) ⌝ }
-    ensures { λ r. ⌜ r ≡ stepOf t e ⌝ }
+    ensures { λ p. ⌜ Plans t e p ⌝ }
 {
     if e.room >= t.n {
-        return Answer { number: 3, table: t };
+        return refused(3);
     }
     let x = e.room as usize;
     let room = t.rooms[x];
     if room.wanted != modes::NONE {
-        return Answer { number: 5, table: t };
+        return refused(5);
     }
     if room.held != modes::U {
-        return Answer { number: 7, table: t };
+        return refused(7);
     }
     let queue = t.queue;
     let done = act::upgrade(Start { me: e.room, room: room, queue: queue, queued: t.queued });
-    finish(t, e.room, t.count, 0, done)
+    Plan { number: 0, me: e.room, place: t.count, gap: 0, done: done }
 }
 
 // HANDBACK.
-fn hand_back(t: Table, e: Event) -> Answer
+fn hand_back(t: Table, e: Event) -> Plan
     requires { ⌜ (wellFormed t ≡ true) × (e .kind ≡ 2) ⌝ }
-    ensures { λ r. ⌜ r ≡ stepOf t e ⌝ }
+    ensures { λ p. ⌜ Plans t e p ⌝ }
 {
     if e.room >= t.n {
-        return Answer { number: 3, table: t };
+        return refused(3);
     }
     let x = e.room as usize;
     let room = t.rooms[x];
     if room.wanted != modes::NONE {
-        return Answer { number: 5, table: t };
+        return refused(5);
     }
     if room.held == modes::NONE {
-        return Answer { number: 7, table: t };
+        return refused(7);
     }
     let queue = t.queue;
     let done = act::hand_back(Start { me: e.room, room: room, queue: queue, queued: t.queued });
-    finish(t, e.room, t.count, 0, done)
+    Plan { number: 0, me: e.room, place: t.count, gap: 0, done: done }
 }
 
 // DELIVER.
-fn deliver(t: Table, e: Event) -> Answer
+fn deliver(t: Table, e: Event) -> Plan
     requires { ⌜ (wellFormed t ≡ true) × (e .kind ≡ 3) ⌝ }
-    ensures { λ r. ⌜ r ≡ stepOf t e ⌝ }
+    ensures { λ p. ⌜ Plans t e p ⌝ }
 {
     if e.room >= t.n {
-        return Answer { number: 3, table: t };
+        return refused(3);
     }
     if e.other >= t.n {
-        return Answer { number: 3, table: t };
+        return refused(3);
     }
     let Found::At { place, message } = table::oldest(t, e.room, e.other) else {
-        return Answer { number: 8, table: t };
+        return refused(8);
     };
     let b = e.other as usize;
     let room = t.rooms[b];
     let queue = t.queue;
     let done = act::receive(Start { me: e.other, room: room, queue: queue, queued: t.queued }, e.room, message);
-    finish(t, e.other, place, 1, done)
+    Plan { number: 0, me: e.other, place: place, gap: 1, done: done }
 }
 
-// One step on any table and any event: a number, and the table after it.
-pub fn step(t: Table, e: Event) -> Answer
-    ensures { λ r. ⌜ r ≡ stepOf t e ⌝ }
+// What the event asks for, on the table as it came.
+fn planned(t: Table, e: Event) -> Plan
+    ensures { λ p. ⌜ Plans t e p ⌝ }
 {
     if !formed::well_formed(t) {
-        return Answer { number: 1, table: t };
+        return refused(1);
     }
     let kind = e.kind;
     match kind {
@@ -149,6 +144,18 @@ pub fn step(t: Table, e: Event) -> Answer
         UPGRADE => upgrade(t, e),
         HANDBACK => hand_back(t, e),
         DELIVER => deliver(t, e),
-        4..=255 => Answer { number: 2, table: t },
+        4..=255 => refused(2),
+    }
+}
+
+// One step on any table and any event: a number, and the table after it.
+pub fn step(t: Table, e: Event) -> Answer
+    ensures { λ r. ⌜ r ≡ stepOf t e ⌝ }
+{
+    let p = planned(t, e);
+    let number = ending(t.count, p);
+    match number {
+        0 => Answer { number: 0, table: written(t, p) },
+        1..=255 => Answer { number: number, table: t },
     }
 }

@@ -4,61 +4,73 @@ use Rattle.rules.specs.Rules as rules
 use Rattle.rules.specs.Work.{workAt}
 use Rattle.step.proofs.Known.{shaped, sent-fits}
 use Rattle.step.proofs.Refused.{deliver-from, deliver-to, deliver-empty, deliver-made}
-use Rattle.step.proofs.Steps.{room-low, takes-one, deliver-ends}
+use Rattle.step.proofs.Steps.{room-low, refused-plans, deliver-plans}
 use borrow.Author.Needs.{needs}
 use Rattle.step.proofs.deliver.Statement.{statement}
 use Rattle.step.proofs.deliver.Tie as tie
 use Rattle.step.proofs.deliver.Reads as reads
 use Rattle.step.proofs.deliver.Lts as lts
 use Rattle.act.proofs.receive.Reads as receive-reads
-use Rattle.step.proofs.finish.finish.Reads as finish-reads
+use Rattle.step.proofs.plan.refused.Reads as refused-reads
 use Rattle.table.proofs.oldest.Reads as oldest-reads
 
--- src/lib.rt:124:9
+-- src/lib.rt:119:9
+refused-requires : tie.Need-refused-requires
+refused-requires c κs = search needs
+
+-- src/lib.rt:119:9
 returns : tie.Need-returns
 returns c = 
-    let s = c .before .before in
+    let s = c .before .before .before in
     let t = s .args .t1 in
     let e = s .args .e in
-    deliver-from t e (s .pre .0) (s .pre .1) (omega arith)
+    refused-plans t e 3 (λ q. omega arith) (deliver-from t e (s .pre .0) (s .pre .1) (omega arith)) _ (c .refused .ensures)
 
--- src/lib.rt:127:9
+-- src/lib.rt:122:9
+refused-requires-2 : tie.Need-refused-requires-2
+refused-requires-2 c κs = search needs
+
+-- src/lib.rt:122:9
 returns-2 : tie.Need-returns-2
 returns-2 c = 
-    let s = c .before .before .before .before in
+    let s = c .before .before .before .before .before in
     let t = s .args .t1 in
     let e = s .args .e in
-    deliver-to t e (s .pre .0) (s .pre .1) (omega arith) (omega arith)
+    refused-plans t e 3 (λ q. omega arith) (deliver-to t e (s .pre .0) (s .pre .1) (omega arith) (omega arith)) _ (c .refused2 .ensures)
 
--- src/lib.rt:129:40
+-- src/lib.rt:124:40
 oldest-requires : tie.Need-oldest-requires
 oldest-requires c κs = search needs
 
--- src/lib.rt:129:21
+-- src/lib.rt:124:21
 enum-known-place : tie.Need-enum-known-place
 enum-known-place c = search needs
 
--- src/lib.rt:130:43
+-- src/lib.rt:125:9
 enum-told : tie.Need-enum-told
 enum-told c = search needs
 
--- src/lib.rt:130:9
+-- src/lib.rt:125:9
+refused-requires-3 : tie.Need-refused-requires-3
+refused-requires-3 c κs = search needs
+
+-- src/lib.rt:125:9
 returns-3 : tie.Need-returns-3
 returns-3 c = 
-    let s = c .before .before .before .before .before .before .before in
+    let s = c .before .before .before .before .before .before .before .before in
     let t = s .args .t1 in
     let e = s .args .e in
-    deliver-empty t e (s .pre .0) (s .pre .1) (omega arith) (omega arith) _ (c .before .before .oldest .ensures) (c .enum-told .given .1)
+    refused-plans t e 8 (λ q. omega arith) (deliver-empty t e (s .pre .0) (s .pre .1) (c .before .before .before .before .before .before .if1 .left) (c .before .before .before .before .if2 .left) _ (c .before .before .before .oldest .ensures) (c .before .enum-told .given .1)) _ (c .refused3 .ensures)
 
--- src/lib.rt:132:13
+-- src/lib.rt:127:13
 cast-b : tie.Need-cast-b
 cast-b c = search needs
 
--- src/lib.rt:133:16
+-- src/lib.rt:128:16
 mul-room : tie.Need-mul-room
 mul-room c = search needs
 
--- src/lib.rt:133:16
+-- src/lib.rt:128:16
 element-copy-out-room : tie.Need-element-copy-out-room
 element-copy-out-room c = 
     let s = c .before .before .before .before .before .before .before .before .before in
@@ -67,47 +79,37 @@ element-copy-out-room c =
     let shape = shaped t (s .good .0) in
     room-low t shape (s .pre .0) (e .other) (omega arith)
 
--- src/lib.rt:135:9
+-- src/lib.rt:130:9
 receive-requires : tie.Need-receive-requires
 receive-requires c κs = search needs
 
--- src/lib.rt:136:5
-finish-requires : tie.Need-finish-requires
-finish-requires c κs = 
+-- src/lib.rt:114:1
+returns-4 : tie.Need-returns-4
+returns-4 c = 
     let s = c .before .before .before .before .before .before .before .before .before .before .before .before in
     let t = s .args .t1 in
     let e = s .args .e in
     let shape = shaped t (s .good .0) in
     let found = c .before .before .before .before .before .place .given in
-    (
-      takes-one t shape (s .pre .0) (e .room) (e .other) _ _ (omega arith) (sym (c .before .before .before .before .before .before .before .oldest .ensures) ∙ found .1),
-      sent-fits (c .receive .result) (c .receive .ok) (rules.receive (workAt t (e .other)) (e .room) (found .0 .1 .0)) (c .receive .ensures),
-    )
-
--- src/lib.rt:119:1
-returns-4 : tie.Need-returns-4
-returns-4 c = 
-    let s = c .before .before .before .before .before .before .before .before .before .before .before .before .before in
-    let t = s .args .t1 in
-    let e = s .args .e in
-    let shape = shaped t (s .good .0) in
-    let found = c .before .before .before .before .before .before .place .given in
-    deliver-ends t shape (s .pre .0) (e .other) _ _ (e .room) _ _ (sym (c .before .before .before .before .before .before .before .before .oldest .ensures) ∙ found .1) (c .finish .ensures) (c .before .receive .ensures)
-    ∙ deliver-made t e (s .pre .0) (s .pre .1) (c .before .before .before .before .before .before .before .before .before .before .before .if1 .left) (c .before .before .before .before .before .before .before .before .before .if2 .left) _ (c .before .before .before .before .before .before .before .before .oldest .ensures) _ _ (found .1)
+    deliver-plans t shape (s .pre .0) e (e .room) (e .other) (c .before .before .before .before .before .before .before .before .if2 .left) (c .receive .result) (sent-fits (c .receive .result) (c .receive .ok) (rules.receive (workAt t (e .other)) (e .room) (found .0 .1 .0)) (c .receive .ensures))
+    _ _ (sym (c .before .before .before .before .before .before .before .oldest .ensures) ∙ found .1) (c .receive .ensures)
+    (deliver-made t e (s .pre .0) (s .pre .1) (c .before .before .before .before .before .before .before .before .before .before .if1 .left) (c .before .before .before .before .before .before .before .before .if2 .left) _ (c .before .before .before .before .before .before .before .oldest .ensures) _ _ (found .1))
 
 pub deliver-spec : {M : Type 1} → statement M
 deliver-spec =
     tie.close
     (tie.spec
+    refused-requires
     returns
+    refused-requires-2
     returns-2
     oldest-requires
     enum-known-place
     enum-told
+    refused-requires-3
     returns-3
     cast-b
     mul-room
     element-copy-out-room
     receive-requires
-    finish-requires
     returns-4)

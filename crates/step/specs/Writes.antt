@@ -1,4 +1,4 @@
--- The end of a step as the code makes it: messages taken out of the array, and what was done written in.
+-- How the code writes a step into the table: messages taken out of the array, and what was done put in.
 use Prim.Native.Nat.{ℕ, _+_, _<_, _≤_}
 use mathlib.Core.Path.{_≡_}
 use mathlib.Core.List.{List, _++_}
@@ -7,11 +7,10 @@ use Rattle.base.specs.Arrays.{padded}
 use Rattle.room.specs.Limits.{roomLimit}
 use Rattle.table.specs.declared.Table.{Table}
 use Rattle.table.specs.declared.Wire.{Wire}
-use Rattle.table.specs.declared.Answer.{Answer}
 use Rattle.table.specs.Limits.{queueLimit, wireLimit}
 use Rattle.table.specs.Tables.{noWire, messagesOf}
 use Rattle.rules.specs.Work.{Work}
-use Rattle.rules.specs.Step.{after, outcome}
+use Rattle.rules.specs.Step.{after}
 use Rattle.act.specs.declared.Done.{Done}
 use Rattle.act.specs.Done.{doneOf}
 
@@ -30,7 +29,3 @@ pub record Takes (t : Table) (me place gap : ℕ) : Type 0 where
 -- r is the table after the work that was done, whichever it was
 abbrev pub Writes : Table → ℕ → ℕ → ℕ → Done → Table → Type 0
 Writes t me place gap d r = (w : Work) → w .me ≡ me → length (w .queue) ≤ queueLimit → d ≡ doneOf w → r ≡ after t (without t place gap) w
-
--- r is the outcome of the work that was done
-abbrev pub Finishes : Table → ℕ → ℕ → ℕ → Done → Answer → Type 0
-Finishes t me place gap d r = (w : Work) → w .me ≡ me → length (w .queue) ≤ queueLimit → d ≡ doneOf w → r ≡ outcome t (without t place gap) w

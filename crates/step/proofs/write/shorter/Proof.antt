@@ -5,10 +5,10 @@ use Prim.Native.Nat.{_≤_, _-_}
 use lib.ListN.{length, take, length-set}
 use lib.Seq.{take-all}
 use Rattle.act.proofs.Laying.{lay-more}
-use Rattle.step.proofs.finish.shorter.Statement.{statement}
-use Rattle.step.proofs.finish.shorter.Tie as tie
-use Rattle.step.proofs.finish.shorter.Reads as reads
-use Rattle.step.proofs.finish.shorter.Lts as lts
+use Rattle.step.proofs.write.shorter.Statement.{statement}
+use Rattle.step.proofs.write.shorter.Tie as tie
+use Rattle.step.proofs.write.shorter.Reads as reads
+use Rattle.step.proofs.write.shorter.Lts as lts
 
 abbrev Inv-loop : tie.InvT-loop
 Inv-loop queue short₀ i₀ short i = (i ≤ 16) × (length short ≡ 16) × (take i short ≡ take i queue)

@@ -1,18 +1,16 @@
-// The end of a step: what a room has done is refused as WORN or FULL, or written into the table.
+// The end of a step that is made: what a room has done is written into the table.
 ghost use mathlib.Core.Path.{_≡_};
 ghost use Prim.Native.Nat.{_+_, _-_, _≤_};
 ghost use lib.ListN.{take};
-ghost use Rattle.step.specs.Finish.{Takes, Finishes, Writes};
+ghost use Rattle.step.specs.Writes.{Takes, Writes};
 
-use act::Done;
 use act::PLACES;
-use table::Answer;
+use crate::plan::Plan;
 use table::Message;
 use table::Queued;
 use table::Table;
 use table::Wire;
 use table::QUEUE;
-use table::WIRES;
 
 // The queue without the place that only a desk has.
 fn shorter(queue: [Queued; PLACES]) -> [Queued; QUEUE]
@@ -35,16 +33,18 @@ fn later(a: usize, b: usize) -> usize
     if a < b { b } else { a }
 }
 
-// The table after what room me did. Of the messages those at place, gap many, are taken out;
-// those behind it close up, and what was sent follows.
-fn written(t: Table, me: u8, place: usize, gap: usize, d: Done) -> Table
-    requires { ⌜ Takes t me place gap × (d .sent ≤ 19) × (d .sent + t .count ≤ 256 + gap) ⌝ }
-    ensures { λ r. ⌜ Writes t me place gap d r ⌝ }
+// The table after what room p.me did. Of the messages those at p.place, p.gap many, are taken out;
+// those behind close up, and what was sent follows.
+pub fn written(t: Table, p: Plan) -> Table
+    requires { ⌜ Takes t (p .me) (p .place) (p .gap) × (p .done .sent ≤ 19) × (p .done .sent + t .count ≤ 256 + p .gap) ⌝ }
+    ensures { λ r. ⌜ Writes t (p .me) (p .place) (p .gap) (p .done) r ⌝ }
 {
+    let d = p.done;
+    let gap = p.gap;
     let old = t.count;
     let kept = old - gap;
     let count = kept + d.sent;
-    let at = me as usize;
+    let at = p.me as usize;
     let room = d.room;
     let queue = shorter(d.queue);
     let mut u = t;
@@ -53,7 +53,7 @@ fn written(t: Table, me: u8, place: usize, gap: usize, d: Done) -> Table
     u.queued = d.queued;
     u.count = count;
     let end = later(old, count);
-    let mut i = place;
+    let mut i = p.place;
     while i < end {
         if i < kept {
             let w = u.wires[i + gap];
@@ -67,19 +67,4 @@ fn written(t: Table, me: u8, place: usize, gap: usize, d: Done) -> Table
         i += 1;
     }
     u
-}
-
-// WORN, FULL, or the table with what was done.
-pub fn finish(t: Table, me: u8, place: usize, gap: usize, d: Done) -> Answer
-    requires { ⌜ Takes t me place gap × (d .sent ≤ 19) ⌝ }
-    ensures { λ r. ⌜ Finishes t me place gap d r ⌝ }
-{
-    if d.worn {
-        return Answer { number: 10, table: t };
-    }
-    let kept = t.count - gap;
-    if d.sent > WIRES - kept {
-        return Answer { number: 11, table: t };
-    }
-    Answer { number: 0, table: written(t, me, place, gap, d) }
 }

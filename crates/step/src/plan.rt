@@ -1,0 +1,58 @@
+// What a step is going to do, before anything is written.
+ghost use mathlib.Core.Path.{_≡_};
+ghost use Prim.Native.Nat.{_≤_};
+ghost use Rattle.step.specs.Plans.{refusedPlan, endingOf};
+
+use act::Done;
+use act::OUTBOX;
+use act::PLACES;
+use room::Room;
+use table::Message;
+use table::Queued;
+use table::Wire;
+use table::WIRES;
+
+// A refusal's number; or 0 and what room me has done, with gap many messages at place taken out.
+pub struct Plan {
+    pub number: u8,
+    pub me: u8,
+    pub place: usize,
+    pub gap: usize,
+    pub done: Done,
+}
+
+// A step that is refused.
+pub fn refused(number: u8) -> Plan
+    ensures { λ p. ⌜ p ≡ refusedPlan «number» ⌝ }
+{
+    let nothing = Wire { from: 0, to: 0, message: Message::Nothing };
+    let room = Room::blank();
+    let done = Done {
+        room: room,
+        queue: [Queued { room: 0, mode: 0 }; PLACES],
+        queued: 0,
+        out: [nothing; OUTBOX],
+        sent: 0,
+        worn: false,
+    };
+    Plan { number: number, me: 0, place: 0, gap: 0, done: done }
+}
+
+// The number that is given back for a plan on a table with so many messages: its own, WORN, FULL or 0.
+pub fn ending(count: usize, p: Plan) -> u8
+    requires { ⌜ (p .«number» ≡ 0 → (p .gap ≤ count) × (count ≤ 256)) ⌝ }
+    ensures { λ r. ⌜ r ≡ endingOf count p ⌝ }
+{
+    if p.number != 0 {
+        return p.number;
+    }
+    let done = p.done;
+    if done.worn {
+        return 10;
+    }
+    let kept = count - p.gap;
+    if done.sent > WIRES - kept {
+        return 11;
+    }
+    0
+}
