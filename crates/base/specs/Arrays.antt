@@ -1,11 +1,13 @@
 -- A list kept in an array with a count in use: the places past it have one filler.
-use mathlib.Core.Path.{_≡_, sym, _∙_, ap}
+use mathlib.Core.Path.{_≡_, refl, sym, _∙_, ap}
+use mathlib.Core.Logic.{_⊎_, inl, inr}
 use mathlib.Core.List.{List, [], _∷_, _++_, append-assoc}
-use Prim.Native.Nat.{ℕ, suc, _+_, _-_, _≤_, _<_}
+use Prim.Native.Nat.{ℕ, zero, suc, _+_, _-_, _≤_, _<_}
 use native.Mathlib.Numerals.{add-one}
 use native.Mathlib.Omega.{arith}
 use lib.ListN.{length, getD, set, take, replicate, length-append, length-replicate, replicate-append-replicate, List·getD-append, List·getD-eq-default}
-use lib.Seq.{take-at, take-append-add, length-take-le, set-append-seam, take-suc-set}
+use Rattle.base.specs.Sums.{below?}
+use lib.Seq.{getD-take, getD-append-add, ext-getD, take-at, take-append-add, length-take-le, set-append-seam, take-suc-set}
 
 module _ {A : Type 0} where
   -- a list laid into an array of k places
@@ -60,3 +62,31 @@ module _ {A : Type 0} where
       ∙ ap (λ (n : ℕ). l ++ take (k - length l) (replicate n d)) parts
       ∙ ap (λ (r : List A). l ++ take (k - length l) r) (sym (replicate-append-replicate (k - length l) (j - k) d))
       ∙ ap (λ (r : List A). l ++ r) (take-at (replicate (k - length l) d) (replicate (j - k) d) (k - length l) (length-replicate (k - length l) d))
+
+  -- past the list an array has the filler
+  pub padded-high : (k : ℕ) (d : A) (l : List A) (i : ℕ) → length l ≤ i → getD (padded k d l) i d ≡ d
+  unfolding padded
+  padded-high k d l i h =
+      rw (at-end) (getD-append-add l (replicate (k - length l) d) (i - length l) d ∙ fill (k - length l) (i - length l))
+    where
+      at-end : i ≡ length l + (i - length l)
+      at-end = omega arith
+
+      fill : (m j : ℕ) → getD (replicate m d) j d ≡ d
+      fill zero j = refl
+      fill (suc m) zero = refl
+      fill (suc m) (suc j) = fill m j
+
+  -- an array whose places from c on have the filler is its first c places, laid out
+  pub padded-of : (k : ℕ) (d : A) (l : List A) (c : ℕ) → length l ≡ k → c ≤ k → ((i : ℕ) → c ≤ i → i < k → getD l i d ≡ d)
+      → l ≡ padded k d (take c l)
+  padded-of k d l c long low fill =
+      ext-getD d l (padded k d (take c l)) (long ∙ sym (padded-length k d (take c l) (omega (arith, size))))
+      (λ i h. go i h (below? i c))
+    where
+      size : length (take c l) ≡ c
+      size = length-take-le c l (omega arith)
+
+      go : (i : ℕ) → i < length l → (i < c) ⊎ (c ≤ i) → getD l i d ≡ getD (padded k d (take c l)) i d
+      go i h (inl b) = sym (padded-low k d (take c l) i (omega (arith, size)) ∙ getD-take c l i d b)
+      go i h (inr b) = fill i b (omega arith) ∙ sym (padded-high k d (take c l) i (omega (arith, size)))

@@ -2,14 +2,14 @@
 use mathlib.Core.Path.{_≡_, refl, ap}
 use mathlib.Core.Logic.{_≢_, _⊎_, inl, inr}
 use mathlib.Core.Bool.{Bool, true, false}
-use mathlib.Core.List.{List, [], _∷_, _++_, List·Memᴰ, List·Memᴰ·head, List·Memᴰ·tail, List·Memᴰ·cases-cons, List·Memᴰ·append-cases, List·Memᴰ·eq-of-singleton}
+use mathlib.Core.List.{List, [], _∷_, _++_, List·Memᴰ, List·Memᴰ·head, List·Memᴰ·tail, List·Memᴰ·cases-cons, List·Memᴰ·append-cases, List·Memᴰ·eq-of-singleton, List·Memᴰ·not-nil}
 use Prim.Native.Nat.{ℕ, zero, suc, _+_, _≤_, _<_}
 use native.Mathlib.Nat.{not-suc-le-zero, le-of-suc-le-suc}
 use native.Mathlib.Numerals.{add-one}
 use native.Mathlib.Omega.{arith}
 use lib.ListN.{length, getD, take, drop}
 use lib.Seq.{take-suc}
-use Rattle.base.specs.Sums.{one, one-le}
+use Rattle.base.specs.Sums.{one, one-le, sum, sum-add, sum-bound}
 
 module _ {A : Type 0} where
   -- the total of a weight
@@ -99,3 +99,34 @@ module _ {A : Type 0} where
   remove-split (suc i) [] = refl
   remove-split zero (x ∷ l) = refl
   remove-split (suc i) (x ∷ l) = ap (λ (t : List A). x ∷ t) (remove-split i l)
+
+  -- a member stands at some place
+  pub mem-place : (l : List A) (d a : A) → Mem a l → (i : ℕ) × (i < length l) × (a ≡ getD l i d)
+  mem-place [] d a h = absurd (List·Memᴰ·not-nil h)
+  mem-place (x ∷ l) d a h = go (mem-place l d a) (List·Memᴰ·cases-cons h)
+    where
+      go : (Mem a l → (i : ℕ) × (i < length l) × (a ≡ getD l i d)) → (a ≡ x) ⊎ Mem a l
+          → (i : ℕ) × (i < suc (length l)) × (a ≡ getD (x ∷ l) i d)
+      go r (inl e) = (zero, omega arith, e)
+      go r (inr m) = let p = r m in (suc (p .0), omega (arith, p .1), p .2)
+
+  -- weights that are equal on the members have the same total
+  pub total-cong : (f g : A → ℕ) (l : List A) → ((x : A) → Mem x l → f x ≡ g x) → total f l ≡ total g l
+  unfolding total
+  total-cong f g [] h = refl
+  total-cong f g (x ∷ l) h = omega (arith, h x (List·Memᴰ·head refl), total-cong f g l (λ y m. h y (List·Memᴰ·tail m)))
+
+  -- the total of 1 is the length
+  pub total-one : (l : List A) → total (λ x. 1) l ≡ length l
+  unfolding total
+  total-one [] = refl
+  total-one (x ∷ l) = omega (arith, total-one l)
+
+  -- a sum of totals is the total of the sums
+  pub sum-total : (n : ℕ) (f : ℕ → A → ℕ) (l : List A) → sum n (λ c. total (f c) l) ≡ total (λ x. sum n (λ c. f c x)) l
+  unfolding total
+  sum-total n f [] = none n
+    where
+      none : (m : ℕ) → sum m (λ c. 0) ≡ 0
+      none m = omega (arith, sum-bound m 0 (λ c. 0) (λ c h. omega arith))
+  sum-total n f (x ∷ l) = omega (arith, sum-add n (λ c. f c x) (λ c. total (f c) l), sum-total n f l)

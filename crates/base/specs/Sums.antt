@@ -1,5 +1,5 @@
 -- Sums and counts over the numbers below n: "exactly one" and "at most n" are said by them, once over n.
-use mathlib.Core.Path.{_≡_, refl}
+use mathlib.Core.Path.{_≡_, refl, sym, _∙_, ap}
 use mathlib.Core.Logic.{_≢_, _⊎_, inl, inr}
 use mathlib.Core.Bool.{Bool, true, false}
 use Prim.Native.Nat.{ℕ, zero, suc, _+_, _*_, _≤_, _<_, zero-le}
@@ -7,7 +7,8 @@ use native.Mathlib.Nat.{not-suc-le-zero}
 use native.Mathlib.Numerals.{add-one}
 use native.Mathlib.Omega.{arith}
 use lib.Dec.{eqb, ltb}
-use borrow.Author.Tests.{eqb-true, eqb-false, ltb-true, ltb-false}
+use borrow.Author.Tests.{eqb-true, eqb-false, ltb-true, ltb-false, eq-eqb, ne-eqb}
+use Rattle.base.specs.Choice.{if_then_else_, by-test}
 
 -- two numbers are equal or not, and one is below the other or not
 pub same? : (a b : ℕ) → (a ≡ b) ⊎ (a ≢ b)
@@ -94,3 +95,39 @@ countBelow n p = sum n (λ i. one (p i))
 
 pub count-below-le : (n : ℕ) (p : ℕ → Bool) → countBelow n p ≤ n
 count-below-le n p = omega (arith, sum-bound n 1 (λ i. one (p i)) (λ i l. one-le (p i)))
+
+-- among the numbers below n each is there once
+pub sum-hit : (n x : ℕ) → x < n → sum n (λ c. one (eqb x c)) ≡ 1
+sum-hit n x h = omega (
+  arith,
+  sum-differ n (λ c. 0) (λ c. one (eqb x c)) x h (λ j l ne. sym (ap one (ne-eqb x j (λ e. ne (sym e))))),
+  sum-bound n 0 (λ c. 0) (λ c k. omega arith),
+  ap one (eq-eqb x x refl),
+)
+
+-- n terms of at most 1, one of them 0
+pub sum-short : (n : ℕ) (f : ℕ → ℕ) (c : ℕ) → c < n → ((i : ℕ) → i < n → f i ≤ 1) → f c ≡ 0 → sum n f < n
+sum-short n f c h low z = omega (
+  arith,
+  sum-differ n f (λ i. if eqb i c then 1 else f i) c h (λ j l ne. sym (simp (ne-eqb j c ne))),
+  sum-bound n 1 (λ i. if eqb i c then 1 else f i) bound,
+  here,
+)
+  where
+    here : (if eqb c c then 1 else f c) ≡ 1
+    here = simp (eq-eqb c c refl)
+
+    bound : (i : ℕ) → i < n → (if eqb i c then 1 else f i) ≤ 1
+    bound i l = by-test (λ (m : ℕ). m ≤ 1) (eqb i c) 1 (f i) (λ e. omega arith) (λ e. low i l)
+
+-- two terms are at most the sum
+pub sum-two : (n : ℕ) (f : ℕ → ℕ) (i j : ℕ) → i < n → j < n → i ≢ j → f i + f j ≤ sum n f
+unfolding sum
+sum-two zero f i j h k ne = absurd (not-suc-le-zero h)
+sum-two (suc n) f i j h k ne = go (same? n i) (same? n j) (λ p q. sum-two n f i j p q ne)
+  where
+    go : (n ≡ i) ⊎ (n ≢ i) → (n ≡ j) ⊎ (n ≢ j) → (i < n → j < n → f i + f j ≤ sum n f) → f i + f j ≤ f n + sum n f
+    go (inl p) (inl q) r = absurd (ne (sym p ∙ q))
+    go (inl p) (inr q) r = rw (← p) (omega (arith, sum-at n f j (omega arith)))
+    go (inr p) (inl q) r = rw (← q) (omega (arith, sum-at n f i (omega arith)))
+    go (inr p) (inr q) r = omega (arith, r (omega arith) (omega arith))

@@ -55,3 +55,8 @@ or-right false b h = h
 
 pub clash {ℓ} : {C : Type ℓ} {b : Bool} → b ≡ true → b ≡ false → C
 clash p q = absurd (true≢false (sym p ∙ q))
+
+-- two tests passed, as a row of "and" reads: a also b also c
+infixl 20 _also_
+pub _also_ : {a b : Bool} → a ≡ true → b ≡ true → (a && b) ≡ true
+_also_ {a} {b} p q = and-both a b p q

@@ -1,4 +1,3 @@
-pub mod Extra
 pub mod Places
 pub mod Shapes
 pub mod Rooms

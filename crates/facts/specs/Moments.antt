@@ -6,7 +6,7 @@ use mathlib.Core.List.{List}
 use Prim.Native.Nat.{ℕ, _≤_, _<_}
 use lib.Dec.{ltb}
 use borrow.Author.Tests.{ltb-true, leb-true, eqb-true, eqb-false, not-true, lt-ltb, le-leb, eq-eqb, ne-eqb}
-use Rattle.base.specs.Tests.{and-left, and-right}
+use Rattle.base.specs.Tests.{and-left, and-right, _also_}
 use Rattle.base.specs.Sums.{one}
 use Rattle.base.specs.Lists.{Mem}
 use Rattle.modes.specs.Codes.{IR, W}
@@ -14,7 +14,6 @@ use Rattle.room.specs.declared.Room.{Room}
 use Rattle.table.specs.declared.Wire.{Wire}
 use Rattle.table.specs.declared.Queued.{Queued}
 use Rattle.table.specs.Formed.{due, queuedFine, messageFine, namesRightly, wireFine, tokens, names}
-use Rattle.facts.specs.Extra.{_also_}
 use Rattle.facts.specs.Rooms.{RoomFacts}
 
 -- a place of the queue that is in use

@@ -8,15 +8,14 @@ use lib.Dec.{ltb, eqb}
 use lib.ListN.{length}
 use borrow.Author.Tests.{ltb-true}
 use Rattle.base.specs.Tests.{and-left}
-use Rattle.base.specs.Sums.{one, one-le, sum, sum-add, sum-bound}
-use Rattle.base.specs.Lists.{count}
+use Rattle.base.specs.Sums.{one, one-le, sum, sum-add, sum-bound, sum-hit, sum-short}
+use Rattle.base.specs.Lists.{count, total-cong, total-one, sum-total}
 use Rattle.room.specs.declared.Room.{Room}
 use Rattle.table.specs.declared.Wire.{Wire}
 use Rattle.table.specs.declared.Queued.{Queued}
 use Rattle.table.specs.declared.Message.{Message}
 use Rattle.table.specs.declared.Message.the-variants as msg
 use Rattle.table.specs.Formed.{due, isMode, messageFine, isNamedIn, names}
-use Rattle.facts.specs.Extra.{total-cong, total-one, sum-total, sum-hit, sum-short}
 use Rattle.facts.specs.Moments.{Formed}
 
 -- a REQUEST, GRANT or TOKEN names a room

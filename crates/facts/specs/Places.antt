@@ -10,9 +10,8 @@ use lib.Seq.{getD-take, length-take-le}
 use borrow.Author.Tests.{ltb-true, ltb-false, lt-ltb, le-ltb}
 use Rattle.base.specs.Choice.{if_then_else_, by-test}
 use Rattle.base.specs.Below.{allBelow, all-at, all-of}
-use Rattle.base.specs.Lists.{Mem, mem-at}
-use Rattle.base.specs.Arrays.{padded}
-use Rattle.facts.specs.Extra.{mem-place, padded-high, padded-of}
+use Rattle.base.specs.Lists.{Mem, mem-at, mem-place}
+use Rattle.base.specs.Arrays.{padded, padded-high, padded-of}
 
 -- An array with k places, of which the first c are in use: one test for those, another for the rest.
 unfoldable pub places : {A : Type 0} → ℕ → A → List A → ℕ → (A → Bool) → (A → Bool) → Bool

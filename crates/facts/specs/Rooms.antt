@@ -6,7 +6,7 @@ use Prim.Native.Nat.{ℕ, _≤_, _<_}
 use lib.Dec.{ltb, leb, eqb}
 use borrow.Author.Tests.{ltb-true, leb-true, eqb-true, eqb-false, not-true, lt-ltb, le-leb, eq-eqb, ne-eqb}
 use Rattle.base.specs.Choice.{split}
-use Rattle.base.specs.Tests.{_implies_, and-left, and-right, implies-use, implies-show, same-use, same-show, or-use, or-left, or-right, clash}
+use Rattle.base.specs.Tests.{_implies_, and-left, and-right, implies-use, implies-show, same-use, same-show, or-use, or-left, or-right, clash, _also_}
 use Rattle.base.specs.Below.{all-at, all-of}
 use Rattle.modes.specs.Codes.{U, W}
 use Rattle.room.specs.declared.Room.{Room}
@@ -14,7 +14,6 @@ use Rattle.room.specs.declared.Entry.{Entry}
 use Rattle.room.specs.Limits.{roomLimit, nobody}
 use Rattle.room.specs.Record.{entryAt}
 use Rattle.table.specs.Formed.{entryFine, roomFine}
-use Rattle.facts.specs.Extra.{_also_}
 
 -- room c's entry for room j, in a table of n rooms
 pub record EntryFacts (n c j : ℕ) (e : Entry) : Type 0 where

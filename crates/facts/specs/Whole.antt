@@ -6,7 +6,7 @@ use native.Mathlib.Omega.{arith}
 use lib.Dec.{ltb, eqb}
 use borrow.Author.Tests.{leb-true, ltb-true, ltb-false, eqb-true, le-leb, lt-ltb, le-ltb, eq-eqb}
 use Rattle.base.specs.Choice.{if_then_else_, by-test}
-use Rattle.base.specs.Tests.{and-left, and-right}
+use Rattle.base.specs.Tests.{and-left, and-right, _also_}
 use Rattle.base.specs.Below.{all-at, all-of}
 use Rattle.base.specs.Sums.{one}
 use Rattle.base.specs.Lists.{Mem}
@@ -19,7 +19,6 @@ use Rattle.table.specs.declared.Queued.{Queued}
 use Rattle.table.specs.Limits.{queueLimit, wireLimit}
 use Rattle.table.specs.Tables.{noWire, noQueued, roomAt, queueOf, messagesOf}
 use Rattle.table.specs.Formed.{sizesFit, roomFine, isBlankRoom, due, queuedFine, isBlankQueued, wireFine, isBlankWire, tokens, names, roomsFine, queueFine, wiresFine, namesFine, wellFormed}
-use Rattle.facts.specs.Extra.{_also_}
 use Rattle.facts.specs.Places.{used-member, used-padded, places-test, places}
 use Rattle.facts.specs.Shapes.{Shaped}
 use Rattle.facts.specs.Rooms.{room-facts, room-test}

@@ -7,7 +7,7 @@ use Prim.Native.Nat.{ℕ, _+_, _≤_, _<_}
 use native.Mathlib.Omega.{arith}
 use lib.Dec.{ltb, eqb}
 use borrow.Author.Tests.{eqb-true, eq-eqb, not-true}
-use Rattle.base.specs.Tests.{and-left, and-right}
+use Rattle.base.specs.Tests.{and-left, and-right, _also_}
 use Rattle.base.specs.Sums.{one, same?, sum, sum-differ}
 use Rattle.base.specs.Lists.{Mem, mem-total}
 use Rattle.room.specs.declared.Room.{Room}
@@ -16,7 +16,6 @@ use Rattle.table.specs.declared.Queued.{Queued}
 use Rattle.table.specs.declared.Message.{Message}
 use Rattle.table.specs.declared.Message.the-variants as msg
 use Rattle.table.specs.Formed.{due, namesRightly, isNamedIn, tokens, names}
-use Rattle.facts.specs.Extra.{_also_}
 use Rattle.facts.specs.Rooms.{RoomFacts}
 use Rattle.facts.specs.Moments.{QueuedFacts}
 use Rattle.kept.specs.Moment.{Right, Moment, waiting}

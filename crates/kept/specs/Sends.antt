@@ -7,6 +7,7 @@ use Prim.Native.Nat.{ℕ, _≤_, _<_}
 use native.Mathlib.Omega.{arith}
 use lib.Dec.{eqb}
 use borrow.Author.Tests.{lt-ltb, le-leb, eq-eqb, ne-eqb, eqb-false}
+use Rattle.base.specs.Tests.{_also_}
 use Rattle.base.specs.Choice.{by-test}
 use Rattle.modes.specs.Codes.{none, IR, R, IW, W}
 use Rattle.modes.specs.Under.{small}
@@ -19,7 +20,6 @@ use Rattle.table.specs.declared.Wire.{Wire}
 use Rattle.table.specs.declared.Message.the-variants as msg
 use Rattle.table.specs.Formed.{due, messageFine, namesRightly, isToken, isNamedIn}
 use Rattle.rules.specs.Work.{Work, send, sendOut}
-use Rattle.facts.specs.Extra.{_also_}
 use Rattle.kept.specs.Moment.{empty}
 use Rattle.kept.specs.Acts.{At, Whole, now, only, put-sent}
 

@@ -8,7 +8,7 @@ use native.Mathlib.Omega.{arith}
 use lib.Dec.{ltb}
 use borrow.Author.Tests.{eq-eqb, ne-eqb, lt-ltb}
 use Rattle.base.specs.Choice.{split}
-use Rattle.base.specs.Sums.{one}
+use Rattle.base.specs.Sums.{one, sum-two}
 use Rattle.modes.specs.Modes.{agrees, canLend}
 use Rattle.room.specs.declared.Room.{Room}
 use Rattle.room.specs.Record.{withModes}
@@ -18,7 +18,6 @@ use Rattle.table.specs.declared.Queued.{Queued}
 use Rattle.table.specs.Formed.{due, tokens, names}
 use Rattle.rules.specs.Work.{Work, withQueue, send}
 use Rattle.rules.specs.Rules.{hold, lend, pass}
-use Rattle.facts.specs.Extra.{sum-two}
 use Rattle.facts.specs.Rooms.{RoomFacts}
 use Rattle.facts.specs.Moments.{QueuedFacts}
 use Rattle.kept.specs.Changed.{changed-same}

@@ -13,6 +13,7 @@ use Rattle.base.specs.Choice.{if_then_else_, split}
 use Rattle.base.specs.Sums.{same?, below?}
 use Rattle.base.specs.Lists.{remove, remove-split}
 use Rattle.table.specs.declared.Table.{Table}
+use Rattle.table.specs.declared.Answer.{Answer}
 use Rattle.table.specs.Limits.{wireLimit}
 use Rattle.table.specs.Tables.{messagesOf, answer}
 use Rattle.rules.specs.Work.{Work}
@@ -60,11 +61,11 @@ module _ (t : Table) (me place gap : ℕ) (k : Takes t me place gap) (long : len
         let over : wireLimit < length (without t place gap ++ w .sent) = omega (arith, total, k .count) in
         sym (simp (worn ∙ free, lt-ltb _ _ over))
 
-    pub outcome-done : d .sent ≤ wireLimit - (t .count - gap) → (u : Table) → u ≡ after t (without t place gap) w → answer 0 u ≡ outcome t (without t place gap) w
+    pub outcome-done : d .sent ≤ wireLimit - (t .count - gap) → (r : Answer) → r ≡ answer 0 (after t (without t place gap) w) → r ≡ outcome t (without t place gap) w
     unfolding outcome
-    outcome-done h u s =
+    outcome-done h r s =
         let under : length (without t place gap ++ w .sent) ≤ wireLimit = omega (arith, total, k .count) in
-        ap (answer 0) s ∙ sym (simp (worn ∙ free, le-ltb _ _ under))
+        s ∙ sym (simp (worn ∙ free, le-ltb _ _ under))
 
 -- the branches of the number that is given back
 module _ (count : ℕ) (p : Plan) where
@@ -135,8 +136,8 @@ module _ (t : Table) (e : Event) (p : Plan) (s : Plans t e p) (long : length (t 
     pub step-takes : Takes t (p .me) (p .place) (p .gap) × (p .done .sent ≤ 19) × (p .done .sent + t .count ≤ wireLimit + p .gap)
     step-takes = (made .takes, made .sent, omega (arith, ended .fits, made .takes .count, made .takes .low))
 
-    pub step-made : (u : Table) → Writes t (p .me) (p .place) (p .gap) (p .done) u → answer 0 u ≡ stepOf t e
-    step-made u wr =
-        outcome-done t (p .me) (p .place) (p .gap) (made .takes) long (p .done) (made .work) (made .done) (ended .free) (ended .fits) u
+    pub step-made : (r : Answer) → Writes t (p .me) (p .place) (p .gap) (p .done) r → r ≡ stepOf t e
+    step-made r wr =
+        outcome-done t (p .me) (p .place) (p .gap) (made .takes) long (p .done) (made .work) (made .done) (ended .free) (ended .fits) r
         (wr (made .work) (made .me) (made .few) (made .done))
         ∙ made .step

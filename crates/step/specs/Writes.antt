@@ -7,8 +7,9 @@ use Rattle.base.specs.Arrays.{padded}
 use Rattle.room.specs.Limits.{roomLimit}
 use Rattle.table.specs.declared.Table.{Table}
 use Rattle.table.specs.declared.Wire.{Wire}
+use Rattle.table.specs.declared.Answer.{Answer}
 use Rattle.table.specs.Limits.{queueLimit, wireLimit}
-use Rattle.table.specs.Tables.{noWire, messagesOf}
+use Rattle.table.specs.Tables.{noWire, messagesOf, answer}
 use Rattle.rules.specs.Work.{Work}
 use Rattle.rules.specs.Step.{after}
 use Rattle.act.specs.declared.Done.{Done}
@@ -26,6 +27,6 @@ pub record Takes (t : Table) (me place gap : ℕ) : Type 0 where
   pub acts : me < roomLimit
   pub blank : t .wires ≡ padded wireLimit noWire (messagesOf t)
 
--- r is the table after the work that was done, whichever it was
-abbrev pub Writes : Table → ℕ → ℕ → ℕ → Done → Table → Type 0
-Writes t me place gap d r = (w : Work) → w .me ≡ me → length (w .queue) ≤ queueLimit → d ≡ doneOf w → r ≡ after t (without t place gap) w
+-- r is 0 and the table after the work that was done, whichever it was
+abbrev pub Writes : Table → ℕ → ℕ → ℕ → Done → Answer → Type 0
+Writes t me place gap d r = (w : Work) → w .me ≡ me → length (w .queue) ≤ queueLimit → d ≡ doneOf w → r ≡ answer 0 (after t (without t place gap) w)

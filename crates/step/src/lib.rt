@@ -153,9 +153,10 @@ pub fn step(t: Table, e: Event) -> Answer
     ensures { λ r. ⌜ r ≡ stepOf t e ⌝ }
 {
     let p = planned(t, e);
-    let number = ending(t.count, p);
-    match number {
-        0 => Answer { number: 0, table: written(t, p) },
-        1..=255 => Answer { number: number, table: t },
+    let count = t.count;
+    let number = ending(count, p);
+    if number != 0 {
+        return Answer { number: number, table: t };
     }
+    written(t, p)
 }

@@ -43,8 +43,10 @@ pub fn ending(count: usize, p: Plan) -> u8
     requires { ⌜ (p .«number» ≡ 0 → (p .gap ≤ count) × (count ≤ 256)) ⌝ }
     ensures { λ r. ⌜ r ≡ endingOf count p ⌝ }
 {
-    if p.number != 0 {
-        return p.number;
+    let number = p.number;
+    match number {
+        0 => {}
+        1..=255 => return number,
     }
     let done = p.done;
     if done.worn {

@@ -6,6 +6,7 @@ ghost use Rattle.step.specs.Writes.{Takes, Writes};
 
 use act::PLACES;
 use crate::plan::Plan;
+use table::Answer;
 use table::Message;
 use table::Queued;
 use table::Table;
@@ -33,9 +34,9 @@ fn later(a: usize, b: usize) -> usize
     if a < b { b } else { a }
 }
 
-// The table after what room p.me did. Of the messages those at p.place, p.gap many, are taken out;
+// Done: the table after what room p.me did. Of the messages those at p.place, p.gap many, are taken out;
 // those behind close up, and what was sent follows.
-pub fn written(t: Table, p: Plan) -> Table
+pub fn written(t: Table, p: Plan) -> Answer
     requires { ⌜ Takes t (p .me) (p .place) (p .gap) × (p .done .sent ≤ 19) × (p .done .sent + t .count ≤ 256 + p .gap) ⌝ }
     ensures { λ r. ⌜ Writes t (p .me) (p .place) (p .gap) (p .done) r ⌝ }
 {
@@ -66,5 +67,5 @@ pub fn written(t: Table, p: Plan) -> Table
         }
         i += 1;
     }
-    u
+    Answer { number: 0, table: u }
 }

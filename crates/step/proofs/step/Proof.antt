@@ -15,22 +15,22 @@ use Rattle.step.proofs.write.written.Reads as written-reads
 planned-requires : tie.Need-planned-requires
 planned-requires c κs = search needs
 
--- src/lib.rt:156:9
+-- src/lib.rt:157:9
 ending-requires : tie.Need-ending-requires
 ending-requires c κs = plan-sizes _ _ _ (c .planned .ensures)
 
--- src/lib.rt:158:41
-written-requires : tie.Need-written-requires
-written-requires c κs = step-takes _ _ _ (c .before .before .planned .ensures) (wires-long (c .before .before .before .args .t) (c .before .before .before .good .0)) _ (c .before .ending .ensures) (c .match .keys1)
-
--- src/lib.rt:152:1
+-- src/lib.rt:159:9
 returns : tie.Need-returns
-returns c = step-made _ _ _ (c .before .before .before .planned .ensures) (wires-long (c .before .before .before .before .args .t) (c .before .before .before .before .good .0)) _ (c .before .before .ending .ensures) (c .before .match .keys1) _ (c .written .ensures)
+returns c = step-refused _ _ _ (c .before .before .planned .ensures) (wires-long (c .before .before .before .args .t) (c .before .before .before .good .0)) _ (c .before .ending .ensures) (c .if1 .taken)
+
+-- src/lib.rt:161:5
+written-requires : tie.Need-written-requires
+written-requires c κs = step-takes _ _ _ (c .before .before .planned .ensures) (wires-long (c .before .before .before .args .t) (c .before .before .before .good .0)) _ (c .before .ending .ensures) (c .if1 .left)
 
 -- src/lib.rt:152:1
 returns-2 : tie.Need-returns-2
-returns-2 c = step-refused _ _ _ (c .before .before .planned .ensures) (wires-long (c .before .before .before .args .t) (c .before .before .before .good .0)) _ (c .before .ending .ensures) (λ q. omega arith)
+returns-2 c = step-made _ _ _ (c .before .before .before .planned .ensures) (wires-long (c .before .before .before .before .args .t) (c .before .before .before .before .good .0)) _ (c .before .before .ending .ensures) (c .before .if1 .left) _ (c .written .ensures)
 
 pub step-spec : {M : Type 1} → statement M
 step-spec =
-    tie.close (tie.spec planned-requires ending-requires written-requires returns returns-2)
+    tie.close (tie.spec planned-requires ending-requires returns written-requires returns-2)

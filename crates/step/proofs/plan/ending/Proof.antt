@@ -6,23 +6,23 @@ use Rattle.step.proofs.plan.ending.Tie as tie
 use Rattle.step.proofs.plan.ending.Reads as reads
 use Rattle.step.proofs.plan.ending.Lts as lts
 
--- src/plan.rt:47:9
+-- src/plan.rt:49:20
 returns : tie.Need-returns
-returns c = search (needs, ending-own)
+returns c = ending-own _ _ (λ q. omega arith)
 
--- src/plan.rt:51:9
+-- src/plan.rt:53:9
 returns-2 : tie.Need-returns-2
 returns-2 c = search (needs, ending-worn)
 
--- src/plan.rt:53:16
+-- src/plan.rt:55:16
 sub-kept : tie.Need-sub-kept
-sub-kept c = omega (arith, c .before .before .before .before .before .pre (omega arith))
+sub-kept c = omega (arith, c .before .before .before .before .pre (c .before .before .before .match .keys1))
 
--- src/plan.rt:54:20
-sub-if3 : tie.Need-sub-if3
-sub-if3 c = omega (arith, c .before .before .before .before .before .pre (omega arith))
+-- src/plan.rt:56:20
+sub-if2 : tie.Need-sub-if2
+sub-if2 c = omega (arith, c .before .before .before .before .pre (c .before .before .before .match .keys1))
 
--- src/plan.rt:55:9
+-- src/plan.rt:57:9
 returns-3 : tie.Need-returns-3
 returns-3 c = search (needs, ending-full)
 
@@ -31,4 +31,4 @@ returns-4 : tie.Need-returns-4
 returns-4 c = search (needs, ending-done)
 
 pub ending-spec : {M : Type 1} → statement M
-ending-spec = tie.close (tie.spec returns returns-2 sub-kept sub-if3 returns-3 returns-4)
+ending-spec = tie.close (tie.spec returns returns-2 sub-kept sub-if2 returns-3 returns-4)
