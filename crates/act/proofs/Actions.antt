@@ -22,7 +22,7 @@ use Rattle.table.specs.Tables.{noQueued}
 use Rattle.rules.specs.Work.{Work, send, join, change}
 use Rattle.rules.specs.Rules.{hold, want, lend, settle, serve, settleOrServe, isEmpty, askWith, askWithout, ask, upgrade, handBack, takeRequest, receive}
 use Rattle.act.specs.declared.desk.Desk.{Desk}
-use Rattle.act.specs.Desk.{workOf, Clean, Starts, Ready, Stays, Joins, Sends, Ends}
+use Rattle.act.specs.Desk.{workOf, Clean, Starts, Ready, Stays, Joins, Sends, Ends, placeLimit, outLimit}
 use Rattle.act.specs.Acts.{lendsOn}
 use Rattle.act.proofs.Desks.{atRoom}
 use Rattle.act.proofs.Turns.{stays-clean}
@@ -32,13 +32,13 @@ pub ends-same : (r : Desk) (v w : Work) → v ≡ w → Ends r v → Ends r w
 ends-same r v w e h = record { holds = h .holds ∙ e; order = h .order; places = h .places; sent = h .sent; clean = h .clean }
 
 module _ (d r : Desk) (w : Work) where
-  pub ends-stays : Stays d r w → d .first ≤ d .last → d .last ≤ 17 → d .sent ≤ 19 → Clean d → Ends r w
+  pub ends-stays : Stays d r w → d .first ≤ d .last → d .last ≤ placeLimit → d .sent ≤ outLimit → Clean d → Ends r w
   ends-stays s a b c k = record { holds = s .holds; order = omega arith; places = omega arith; sent = omega arith; clean = stays-clean d r k (s .sent) (s .out) }
 
-  pub ends-sends : Sends d r w → d .first ≤ d .last → d .last ≤ 17 → d .sent < 19 → Clean d → Ends r w
+  pub ends-sends : Sends d r w → d .first ≤ d .last → d .last ≤ placeLimit → d .sent < outLimit → Clean d → Ends r w
   ends-sends s a b c k = record { holds = s .holds; order = omega arith; places = omega arith; sent = omega arith; clean = s .clean k }
 
-  pub ends-joins : Joins d r w → d .first ≤ d .last → d .last < 17 → d .sent ≤ 19 → Clean d → Ends r w
+  pub ends-joins : Joins d r w → d .first ≤ d .last → d .last < placeLimit → d .sent ≤ outLimit → Clean d → Ends r w
   ends-joins s a b c k = record { holds = s .holds; order = omega arith; places = omega arith; sent = omega arith; clean = stays-clean d r k (s .sent) (s .out) }
 
 -- an empty queue, and one that is not
@@ -109,7 +109,7 @@ module _ (d r : Desk) where
   unfolding settleOrServe
   serves h = ends-same r _ _ (sym (simp h))
 
-  pub settles : Ready d → d .sent < 19 → d .room .token ≡ false → Sends d r (settle (workOf d)) → Ends r (settleOrServe (workOf d))
+  pub settles : Ready d → d .sent < outLimit → d .room .token ≡ false → Sends d r (settle (workOf d)) → Ends r (settleOrServe (workOf d))
   unfolding settleOrServe
   settles y k h t = ends-same r _ _ (sym (simp h)) (ends-sends d r _ t (omega arith) (omega arith) (omega arith) (y .clean))
 

@@ -1,4 +1,5 @@
 -- Laying out a desk and tidying it up: the queue goes from an array to the desk and back, and loses nothing.
+use Rattle.table.specs.Limits.{queueLimit}
 use mathlib.Core.Path.{_≡_, refl, sym, _∙_, ap}
 use mathlib.Core.Bool.{Bool, false}
 use mathlib.Core.List.{List, [], _∷_, _++_}
@@ -28,21 +29,21 @@ lay-more q s i h k e =
 abbrev pub laid : Start → List Queued → ℕ → Desk
 laid s q k = record { me = s .me; room = s .room; queue = q; first = 0; last = k; out = replicate outLimit noWire; sent = 0; worn = false }
 
-module _ (s : Start) (q : List Queued) (long : length (s .queue) ≡ 16) (e : take 16 q ≡ take 16 (s .queue)) where
-  lays : (k : ℕ) → k ≤ 16 → take k q ≡ take (s .queued) (s .queue) → Lays s (laid s q k)
+module _ (s : Start) (q : List Queued) (long : length (s .queue) ≡ queueLimit) (e : take queueLimit q ≡ take queueLimit (s .queue)) where
+  lays : (k : ℕ) → k ≤ queueLimit → take k q ≡ take (s .queued) (s .queue) → Lays s (laid s q k)
   unfolding padded
   lays k h p =
       record
         { holds = ap (λ (l : List Queued). record { me = s .me; room = s .room; queue = l; sent = []; worn = false }) p
         ; starts = record { first = refl; last = h; sent = refl; clean = record { blank = refl } } }
 
-  pub lays-part : s .queued < 16 → Lays s (laid s q (s .queued))
+  pub lays-part : s .queued < queueLimit → Lays s (laid s q (s .queued))
   lays-part h =
       lays (s .queued) (omega arith)
-      (sym (take-take (s .queued) 16 q (omega arith)) ∙ ap (take (s .queued)) e ∙ take-take (s .queued) 16 (s .queue) (omega arith))
+      (sym (take-take (s .queued) queueLimit q (omega arith)) ∙ ap (take (s .queued)) e ∙ take-take (s .queued) queueLimit (s .queue) (omega arith))
 
-  pub lays-whole : 16 ≤ s .queued → Lays s (laid s q 16)
-  lays-whole h = lays 16 (omega arith) (e ∙ take-all 16 (s .queue) (omega arith) ∙ sym (take-all (s .queued) (s .queue) (omega arith)))
+  pub lays-whole : queueLimit ≤ s .queued → Lays s (laid s q queueLimit)
+  lays-whole h = lays queueLimit (omega arith) (e ∙ take-all queueLimit (s .queue) (omega arith) ∙ sym (take-all (s .queued) (s .queue) (omega arith)))
 
 -- the part of a queue from f on, with one place more
 slice-snoc : (l : List Queued) (f i : ℕ) → f ≤ i → i < length l → slice f (suc i) l ≡ slice f i l ++ (getD l i noQueued ∷ [])
@@ -54,7 +55,7 @@ pub tidy-none : (l : List Queued) (f : ℕ) → replicate placeLimit noQueued �
 unfolding padded
 tidy-none l f = rw (slice-empty f l)
 
-pub tidy-more : (q l : List Queued) (f i : ℕ) → f ≤ i → i < length l → i < 17 → q ≡ padded placeLimit noQueued (slice f i l)
+pub tidy-more : (q l : List Queued) (f i : ℕ) → f ≤ i → i < length l → i < placeLimit → q ≡ padded placeLimit noQueued (slice f i l)
     → set q (i - f) (getD l i noQueued) ≡ padded placeLimit noQueued (slice f (i + 1) l)
 tidy-more q l f i h k low e =
     let long : length (slice f i l) ≡ i - f = length-slice f i l (omega arith) in

@@ -2,7 +2,7 @@
 ghost use mathlib.Core.Path.{_≡_};
 ghost use Prim.Native.Nat.{_<_};
 ghost use Rattle.rules.specs.Rules as rules;
-ghost use Rattle.act.specs.Desk.{workOf, Starts, Ready, Ends};
+ghost use Rattle.act.specs.Desk.{outLimit, workOf, Starts, Ready, Ends};
 ghost use Rattle.act.specs.Acts.{lendsOn};
 
 use crate::desk::change;
@@ -69,7 +69,7 @@ pub fn upgrade(d: Desk) -> Desk
 
 // What a room whose modes have changed does next.
 fn settle_or_serve(d: Desk) -> Desk
-    requires { ⌜ Ready d × (d .sent < 19) ⌝ }
+    requires { ⌜ Ready d × (d .sent < outLimit) ⌝ }
     ensures { λ r. ⌜ Ends r (rules.settleOrServe (workOf d)) ⌝ }
 {
     if d.room.token {

@@ -5,7 +5,7 @@ ghost use mathlib.Core.Bool.{_||_};
 ghost use Prim.Native.Nat.{_<_, _≤_};
 ghost use Rattle.rules.specs.Rules as rules;
 ghost use Rattle.rules.specs.Work as work;
-ghost use Rattle.act.specs.Desk.{workOf, Stays, Joins, Sends, Ends, Ready, Turns};
+ghost use Rattle.act.specs.Desk.{placeLimit, outLimit, workOf, Stays, Joins, Sends, Ends, Ready, Turns};
 
 use room::Changed;
 use room::Room;
@@ -36,7 +36,7 @@ pub struct Turned {
 
 // A message to room y, after those sent already.
 pub fn post(d: Desk, y: u8, message: Message) -> Desk
-    requires { ⌜ d .sent < 19 ⌝ }
+    requires { ⌜ d .sent < outLimit ⌝ }
     ensures { λ r. ⌜ Sends d r (work.send (workOf d) y message) ⌝ }
 {
     let at = d.sent;
@@ -48,7 +48,7 @@ pub fn post(d: Desk, y: u8, message: Message) -> Desk
 
 // Room y joins the end of the queue.
 pub fn join(d: Desk, y: u8, m: u8) -> Desk
-    requires { ⌜ (d .first ≤ d .last) × (d .last < 17) ⌝ }
+    requires { ⌜ (d .first ≤ d .last) × (d .last < placeLimit) ⌝ }
     ensures { λ r. ⌜ Joins d r (work.join (workOf d) y m) ⌝ }
 {
     let at = d.last;
@@ -60,7 +60,7 @@ pub fn join(d: Desk, y: u8, m: u8) -> Desk
 
 // The changed record, and what it sends.
 pub fn change(d: Desk, c: Changed) -> Desk
-    requires { ⌜ d .sent < 19 ⌝ }
+    requires { ⌜ d .sent < outLimit ⌝ }
     ensures { λ r. ⌜ Sends d r (work.change (workOf d) c) ⌝ }
 {
     let room = c.room;
@@ -101,7 +101,7 @@ fn either(a: bool, b: bool) -> bool
 
 // Lend m to y.
 pub fn lend(d: Desk, y: u8, m: u8) -> Desk
-    requires { ⌜ d .sent < 19 ⌝ }
+    requires { ⌜ d .sent < outLimit ⌝ }
     ensures { λ r. ⌜ Sends d r (rules.lend (workOf d) y m) ⌝ }
 {
     let room = d.room;
@@ -115,7 +115,7 @@ pub fn lend(d: Desk, y: u8, m: u8) -> Desk
 
 // Pass the token to y.
 fn pass(d: Desk, y: u8, m: u8) -> Desk
-    requires { ⌜ d .sent < 19 ⌝ }
+    requires { ⌜ d .sent < outLimit ⌝ }
     ensures { λ r. ⌜ Sends d r (rules.pass (workOf d) y m) ⌝ }
 {
     let room = d.room;
@@ -129,7 +129,7 @@ fn pass(d: Desk, y: u8, m: u8) -> Desk
 
 // Without the token: what is owed falls to what is owned.
 pub fn settle(d: Desk) -> Desk
-    requires { ⌜ d .sent < 19 ⌝ }
+    requires { ⌜ d .sent < outLimit ⌝ }
     ensures { λ r. ⌜ Sends d r (rules.settle (workOf d)) ⌝ }
 {
     let room = d.room;

@@ -18,7 +18,7 @@ use Rattle.room.specs.declared.Lent.{Lent}
 use Rattle.room.specs.declared.Passed.{Passed}
 use Rattle.room.specs.declared.Send.{Send}
 use Rattle.room.specs.declared.Send.the-variants as send
-use Rattle.room.specs.Limits.{nobody, lastLink}
+use Rattle.room.specs.Limits.{nobody, lastLink, roomLimit}
 use Rattle.room.specs.Record.{noEntry, entryOf, entryAt, withModes, withToken, withDebt, withCounter, setEntry}
 use Rattle.room.specs.Owned.{larger, strongest, owned, hasNoEntries}
 use Rattle.room.specs.Rules.{nextLink, isWorn, lentTo, lent, left, remaining, passedTo, passed, credited, settled, leaving, granted, lifted, tokenedBy, tokened, reduced}
@@ -57,11 +57,11 @@ pub strongest-more : (r : Room) (i b c : ℕ) → b ≡ strongest r i → c ≡ 
 unfolding strongest
 strongest-more r i b c p q = rw (add-one, ← p) q
 
-pub owned-strongest : (r : Room) (b : ℕ) → b ≡ strongest r 16 → b ≡ owned r
+pub owned-strongest : (r : Room) (b : ℕ) → b ≡ strongest r roomLimit → b ≡ owned r
 unfolding owned
 owned-strongest r b e = e
 
-pub no-entries-all : (r : Room) → allBelow 16 (λ j. eqb (entryAt r j .mode) 0) ≡ hasNoEntries r
+pub no-entries-all : (r : Room) → allBelow roomLimit (λ j. eqb (entryAt r j .mode) 0) ≡ hasNoEntries r
 unfolding hasNoEntries
 no-entries-all r = refl
 

@@ -19,6 +19,7 @@ use Rattle.table.specs.Tables.{messagesOf, answer}
 use Rattle.rules.specs.Work.{Work}
 use Rattle.rules.specs.declared.Event.{Event}
 use Rattle.rules.specs.Step.{after, outcome, stepOf}
+use Rattle.act.specs.Desk.{outLimit}
 use Rattle.act.specs.declared.Done.{Done}
 use Rattle.act.specs.Done.{doneOf}
 use Rattle.step.specs.Writes.{without, Takes, Writes}
@@ -133,7 +134,7 @@ module _ (t : Table) (e : Event) (p : Plan) (s : Plans t e p) (long : length (t 
     made : Made t e p
     made = s .made (ended .zero)
 
-    pub step-takes : Takes t (p .me) (p .place) (p .gap) × (p .done .sent ≤ 19) × (p .done .sent + t .count ≤ wireLimit + p .gap)
+    pub step-takes : Takes t (p .me) (p .place) (p .gap) × (p .done .sent ≤ outLimit) × (p .done .sent + t .count ≤ wireLimit + p .gap)
     step-takes = (made .takes, made .sent, omega (arith, ended .fits, made .takes .count, made .takes .low))
 
     pub step-made : (r : Answer) → Writes t (p .me) (p .place) (p .gap) (p .done) r → r ≡ stepOf t e

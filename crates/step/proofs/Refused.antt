@@ -6,7 +6,7 @@ use native.Mathlib.Omega.{arith}
 use lib.Dec.{eqb, leb, ltb}
 use borrow.Author.Tests.{le-leb, lt-leb, eq-eqb, ne-eqb}
 use Rattle.base.specs.Choice.{if_then_else_}
-use Rattle.base.specs.Below.{allBelow}
+use Rattle.base.specs.Below.{allBelow, all-at}
 use Rattle.table.specs.declared.Table.{Table}
 use Rattle.table.specs.declared.Answer.{Answer}
 use Rattle.table.specs.declared.Message.{Message}
@@ -23,6 +23,10 @@ use Rattle.rules.specs.Rules.{ask, upgrade, handBack, receive}
 use Rattle.rules.specs.Refusals.{first, refusals, refusal, isFound, anyWorn}
 use Rattle.rules.specs.Step.{outcome, delivered, made, stepOf}
 
+-- the kinds that there are
+known : (k : ℕ) → k < 4 → (eqb k 0 || eqb k 1 || eqb k 2 || eqb k 3) ≡ true
+known k h = all-at 4 (λ k. eqb k 0 || eqb k 1 || eqb k 2 || eqb k 3) refl k h
+
 module _ (t : Table) (e : Event) where
   pub refused-table : wellFormed t ≡ false → answer 1 t ≡ stepOf t e
   unfolding stepOf refusal refusals first
@@ -34,12 +38,13 @@ module _ (t : Table) (e : Event) where
     refused-kind k =
         simp (f, ne-eqb (e .kind) 0 (λ q. omega arith), ne-eqb (e .kind) 1 (λ q. omega arith), ne-eqb (e .kind) 2 (λ q. omega arith), ne-eqb (e .kind) 3 (λ q. omega arith))
 
+    -- an event of a known kind is of a room that the table has
+    pub refused-room : e .kind < 4 → t .n ≤ e .room → answer 3 t ≡ stepOf t e
+    unfolding stepOf refusal refusals first
+    refused-room k h = simp (f, known (e .kind) k, le-leb _ _ h)
+
     -- ASK
     module _ (k : e .kind ≡ 0) where
-      pub ask-room : t .n ≤ e .room → answer 3 t ≡ stepOf t e
-      unfolding stepOf refusal refusals first
-      ask-room h = simp (f, k, le-leb _ _ h)
-
       module _ (low : e .room < t .n) where
         pub ask-below : e .mode < 1 → answer 4 t ≡ stepOf t e
         unfolding stepOf refusal refusals first
@@ -79,10 +84,6 @@ module _ (t : Table) (e : Event) where
 
     -- UPGRADE
     module _ (k : e .kind ≡ 1) where
-      pub upgrade-room : t .n ≤ e .room → answer 3 t ≡ stepOf t e
-      unfolding stepOf refusal refusals first
-      upgrade-room h = simp (f, k, le-leb _ _ h)
-
       module _ (low : e .room < t .n) where
         pub upgrade-waiting : (roomAt t (e .room) .wanted ≡ 0 → ⊥) → answer 5 t ≡ stepOf t e
         unfolding stepOf refusal refusals first
@@ -99,10 +100,6 @@ module _ (t : Table) (e : Event) where
 
     -- HANDBACK
     module _ (k : e .kind ≡ 2) where
-      pub back-room : t .n ≤ e .room → answer 3 t ≡ stepOf t e
-      unfolding stepOf refusal refusals first
-      back-room h = simp (f, k, le-leb _ _ h)
-
       module _ (low : e .room < t .n) where
         pub back-waiting : (roomAt t (e .room) .wanted ≡ 0 → ⊥) → answer 5 t ≡ stepOf t e
         unfolding stepOf refusal refusals first
@@ -119,10 +116,6 @@ module _ (t : Table) (e : Event) where
 
     -- DELIVER
     module _ (k : e .kind ≡ 3) where
-      pub deliver-from : t .n ≤ e .room → answer 3 t ≡ stepOf t e
-      unfolding stepOf refusal refusals first
-      deliver-from h = simp (f, k, le-leb _ _ h)
-
       module _ (low : e .room < t .n) where
         pub deliver-to : t .n ≤ e .other → answer 3 t ≡ stepOf t e
         unfolding stepOf refusal refusals first

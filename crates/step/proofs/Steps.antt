@@ -12,7 +12,7 @@ use Rattle.table.specs.declared.Table.{Table}
 use Rattle.table.specs.declared.Wire.{Wire}
 use Rattle.table.specs.declared.Message.{Message}
 use Rattle.table.specs.declared.Found.the-variants as found
-use Rattle.table.specs.Limits.{queueLimit}
+use Rattle.table.specs.Limits.{queueLimit, wireLimit}
 use Rattle.table.specs.Tables.{roomAt, messagesOf, answer}
 use Rattle.table.specs.Oldest.{oldestOf}
 use Rattle.table.specs.Formed.{wellFormed}
@@ -91,5 +91,5 @@ pub refused-plans : (t : Table) (e : Event) (k : ℕ) → (k ≡ 0 → ⊥) → 
 refused-plans t e k z h p q = rw q (record { refused = λ n. h; made = λ n. absurd (z n) })
 
 -- a plan that is made takes its message from the messages that there are
-pub plan-sizes : (t : Table) (e : Event) (p : Plan) → Plans t e p → p .«number» ≡ 0 → (p .gap ≤ t .count) × (t .count ≤ 256)
+pub plan-sizes : (t : Table) (e : Event) (p : Plan) → Plans t e p → p .«number» ≡ 0 → (p .gap ≤ t .count) × (t .count ≤ wireLimit)
 plan-sizes t e p s z = let m = s .made z in (omega (arith, m .takes .low), m .takes .count)

@@ -1,6 +1,7 @@
 // What a step is going to do, before anything is written.
 ghost use mathlib.Core.Path.{_≡_};
 ghost use Prim.Native.Nat.{_≤_};
+ghost use Rattle.table.specs.Limits.{wireLimit};
 ghost use Rattle.step.specs.Plans.{refusedPlan, endingOf};
 
 use act::Done;
@@ -40,7 +41,7 @@ pub fn refused(number: u8) -> Plan
 
 // The number that is given back for a plan on a table with so many messages: its own, WORN, FULL or 0.
 pub fn ending(count: usize, p: Plan) -> u8
-    requires { ⌜ (p .«number» ≡ 0 → (p .gap ≤ count) × (count ≤ 256)) ⌝ }
+    requires { ⌜ (p .«number» ≡ 0 → (p .gap ≤ count) × (count ≤ wireLimit)) ⌝ }
     ensures { λ r. ⌜ r ≡ endingOf count p ⌝ }
 {
     let number = p.number;

@@ -2,6 +2,8 @@
 ghost use mathlib.Core.Path.{_≡_};
 ghost use Prim.Native.Nat.{_+_, _-_, _≤_};
 ghost use lib.ListN.{take};
+ghost use Rattle.table.specs.Limits.{queueLimit, wireLimit};
+ghost use Rattle.act.specs.Desk.{outLimit};
 ghost use Rattle.step.specs.Writes.{Takes, Writes};
 
 use act::PLACES;
@@ -15,7 +17,7 @@ use table::QUEUE;
 
 // The queue without the place that only a desk has.
 fn shorter(queue: [Queued; PLACES]) -> [Queued; QUEUE]
-    ensures { λ r. ⌜ r ≡ take 16 queue ⌝ }
+    ensures { λ r. ⌜ r ≡ take queueLimit queue ⌝ }
 {
     let mut short = [Queued { room: 0, mode: 0 }; QUEUE];
     let mut i: usize = 0;
@@ -37,7 +39,7 @@ fn later(a: usize, b: usize) -> usize
 // Done: the table after what room p.me did. Of the messages those at p.place, p.gap many, are taken out;
 // those behind close up, and what was sent follows.
 pub fn written(t: Table, p: Plan) -> Answer
-    requires { ⌜ Takes t (p .me) (p .place) (p .gap) × (p .done .sent ≤ 19) × (p .done .sent + t .count ≤ 256 + p .gap) ⌝ }
+    requires { ⌜ Takes t (p .me) (p .place) (p .gap) × (p .done .sent ≤ outLimit) × (p .done .sent + t .count ≤ wireLimit + p .gap) ⌝ }
     ensures { λ r. ⌜ Writes t (p .me) (p .place) (p .gap) (p .done) r ⌝ }
 {
     let d = p.done;

@@ -25,17 +25,17 @@ abbrev pub laid : ℕ → List Room → Table
 laid n rooms = record { n = n; rooms = rooms; queue = replicate queueLimit noQueued; queued = 0; wires = replicate wireLimit noWire; count = 0 }
 
 module _ (n : ℕ) (r : Room) (e : r ≡ blankRoom) where
-  pub fresh-done : n < 17 → 1 ≤ n → answer 0 (laid n (set (replicate roomLimit r) 0 (withToken r true (r .toward)))) ≡ freshOf n
+  pub fresh-done : n ≤ roomLimit → 1 ≤ n → answer 0 (laid n (set (replicate roomLimit r) 0 (withToken r true (r .toward)))) ≡ freshOf n
   unfolding freshOf freshTable
-  fresh-done h k = rw e (simp (le-leb 1 n k, le-leb n 16 (omega arith)))
+  fresh-done h k = rw e (simp (le-leb 1 n k, le-leb n roomLimit h))
 
   pub fresh-low : n < 1 → answer 3 (laid 0 (replicate roomLimit r)) ≡ freshOf n
   unfolding freshOf blankTable
   fresh-low h = rw e (simp (lt-leb 1 n h))
 
-  pub fresh-high : 16 < n → answer 3 (laid 0 (replicate roomLimit r)) ≡ freshOf n
+  pub fresh-high : roomLimit < n → answer 3 (laid 0 (replicate roomLimit r)) ≡ freshOf n
   unfolding freshOf blankTable
-  fresh-high h = rw e (simp (lt-leb n 16 h, and-false))
+  fresh-high h = rw e (simp (lt-leb n roomLimit h, and-false))
 
 -- the search at place i of a list
 module _ (a b : ℕ) (ws : List Wire) (n i : ℕ) where

@@ -1,3 +1,5 @@
+use Rattle.table.specs.Limits.{queueLimit}
+use Rattle.act.specs.Desk.{placeLimit}
 use borrow.Author.Needs.{needs}
 use native.Mathlib.Omega.{arith}
 use mathlib.Core.Path.{_≡_, refl}
@@ -11,10 +13,10 @@ use Rattle.act.proofs.lay_out.Reads as reads
 use Rattle.act.proofs.lay_out.Lts as lts
 
 abbrev Inv-loop : tie.InvT-loop
-Inv-loop s nothing queue₀ i₀ queue i = (i ≤ 16) × (length queue ≡ 17) × (take i queue ≡ take i (s .queue))
+Inv-loop s nothing queue₀ i₀ queue i = (i ≤ queueLimit) × (length queue ≡ placeLimit) × (take i queue ≡ take i (s .queue))
 
 abbrev μ-loop : tie.MeasureT-loop
-μ-loop s nothing queue₀ i₀ queue i = 16 - i
+μ-loop s nothing queue₀ i₀ queue i = queueLimit - i
 
 -- src/lib.rt:44:5
 loop-holds : tie.Need-loop-holds Inv-loop μ-loop
@@ -57,7 +59,7 @@ returns : tie.Need-returns Inv-loop μ-loop
 returns c = 
     let s = c .before .before .before .before in
     let k = c .before .before .before .loop in
-    let e : k .i ≡ 16 = omega arith in
+    let e : k .i ≡ queueLimit = omega arith in
     lays-part (s .args .t1) (k .queue) (start-long (s .args .t1) (s .good .0)) (rw e at (k .inv .2)) (c .if1 .taken)
 
 -- src/lib.rt:38:1
@@ -65,7 +67,7 @@ returns-2 : tie.Need-returns-2 Inv-loop μ-loop
 returns-2 c = 
     let s = c .before .before .before .before in
     let k = c .before .before .before .loop in
-    let e : k .i ≡ 16 = omega arith in
+    let e : k .i ≡ queueLimit = omega arith in
     lays-whole (s .args .t1) (k .queue) (start-long (s .args .t1) (s .good .0)) (rw e at (k .inv .2)) (c .if1 .left)
 
 pub lay-out-spec : {M : Type 1} → statement M

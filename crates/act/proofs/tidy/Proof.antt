@@ -16,7 +16,7 @@ use Rattle.act.proofs.tidy.Reads as reads
 use Rattle.act.proofs.tidy.Lts as lts
 
 abbrev Inv-loop : tie.InvT-loop
-Inv-loop d first last queue₀ i₀ queue i = (first ≤ i) × (i ≤ last) × (length queue ≡ 17) × (queue ≡ padded placeLimit noQueued (slice first i (d .queue)))
+Inv-loop d first last queue₀ i₀ queue i = (first ≤ i) × (i ≤ last) × (length queue ≡ placeLimit) × (queue ≡ padded placeLimit noQueued (slice first i (d .queue)))
 
 abbrev μ-loop : tie.MeasureT-loop
 μ-loop d first last queue₀ i₀ queue i = last - i

@@ -13,7 +13,7 @@ use Rattle.rules.specs.Limits.{wornLimit}
 use Rattle.rules.specs.Rules as rules
 use Rattle.rules.specs.Work.{workAt}
 use Rattle.step.proofs.Known.{shaped, sent-fits}
-use Rattle.step.proofs.Refused.{ask-room, ask-below, ask-above, ask-waiting, ask-held, ask-busy, ask-worn, ask-made}
+use Rattle.step.proofs.Refused.{refused-room, ask-below, ask-above, ask-waiting, ask-held, ask-busy, ask-worn, ask-made}
 use Rattle.step.proofs.Steps.{room-low, refused-plans, ask-plans}
 use Rattle.step.proofs.ask.Statement.{statement}
 use Rattle.step.proofs.ask.Tie as tie
@@ -42,7 +42,7 @@ returns c =
     let s = c .before .before .before in
     let t = s .args .t1 in
     let e = s .args .e in
-    refused-plans t e 3 (λ q. omega arith) (ask-room t e (s .pre .0) (s .pre .1) (omega arith)) _ (c .refused .ensures)
+    refused-plans t e 3 (λ q. omega arith) (refused-room t e (s .pre .0) (omega arith) (omega arith)) _ (c .refused .ensures)
 
 -- src/lib.rt:44:14
 refused-requires-2 : tie.Need-refused-requires-2 Inv-loop μ-loop

@@ -3,7 +3,7 @@ use mathlib.Core.Path.{sym, _∙_}
 use Rattle.rules.specs.Rules as rules
 use Rattle.rules.specs.Work.{workAt}
 use Rattle.step.proofs.Known.{shaped, sent-fits}
-use Rattle.step.proofs.Refused.{deliver-from, deliver-to, deliver-empty, deliver-made}
+use Rattle.step.proofs.Refused.{refused-room, deliver-to, deliver-empty, deliver-made}
 use Rattle.step.proofs.Steps.{room-low, refused-plans, deliver-plans}
 use borrow.Author.Needs.{needs}
 use Rattle.step.proofs.deliver.Statement.{statement}
@@ -24,7 +24,7 @@ returns c =
     let s = c .before .before .before in
     let t = s .args .t1 in
     let e = s .args .e in
-    refused-plans t e 3 (λ q. omega arith) (deliver-from t e (s .pre .0) (s .pre .1) (omega arith)) _ (c .refused .ensures)
+    refused-plans t e 3 (λ q. omega arith) (refused-room t e (s .pre .0) (omega arith) (omega arith)) _ (c .refused .ensures)
 
 -- src/lib.rt:122:9
 refused-requires-2 : tie.Need-refused-requires-2

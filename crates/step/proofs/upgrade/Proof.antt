@@ -2,7 +2,7 @@ use native.Mathlib.Omega.{arith}
 use Rattle.rules.specs.Rules as rules
 use Rattle.rules.specs.Work.{workAt}
 use Rattle.step.proofs.Known.{shaped, sent-fits}
-use Rattle.step.proofs.Refused.{upgrade-room, upgrade-waiting, upgrade-other, upgrade-made}
+use Rattle.step.proofs.Refused.{refused-room, upgrade-waiting, upgrade-other, upgrade-made}
 use Rattle.step.proofs.Steps.{room-low, refused-plans, upgrade-plans}
 use borrow.Author.Needs.{needs}
 use Rattle.step.proofs.upgrade.Statement.{statement}
@@ -22,7 +22,7 @@ returns c =
     let s = c .before .before .before in
     let t = s .args .t1 in
     let e = s .args .e in
-    refused-plans t e 3 (λ q. omega arith) (upgrade-room t e (s .pre .0) (s .pre .1) (omega arith)) _ (c .refused .ensures)
+    refused-plans t e 3 (λ q. omega arith) (refused-room t e (s .pre .0) (omega arith) (omega arith)) _ (c .refused .ensures)
 
 -- src/lib.rt:79:13
 cast-x : tie.Need-cast-x

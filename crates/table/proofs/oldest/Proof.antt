@@ -1,3 +1,4 @@
+use Rattle.table.specs.Limits.{wireLimit}
 use borrow.Author.Needs.{needs}
 use native.Mathlib.Omega.{arith}
 use mathlib.Core.Path.{_≡_, sym, _∙_}
@@ -14,10 +15,10 @@ use Rattle.table.proofs.oldest.Reads as reads
 use Rattle.table.proofs.oldest.Lts as lts
 
 abbrev Inv-loop : tie.InvT-loop
-Inv-loop a b t count i₀ i = (i ≤ 256) × (oldestIn a b i (drop i (messagesOf t)) ≡ oldestOf t a b)
+Inv-loop a b t count i₀ i = (i ≤ wireLimit) × (oldestIn a b i (drop i (messagesOf t)) ≡ oldestOf t a b)
 
 abbrev μ-loop : tie.MeasureT-loop
-μ-loop a b t count i₀ i = 256 - i
+μ-loop a b t count i₀ i = wireLimit - i
 
 -- src/lib.rt:80:5
 loop-holds : tie.Need-loop-holds Inv-loop μ-loop

@@ -1,3 +1,4 @@
+use Rattle.room.specs.Limits.{roomLimit}
 use borrow.Author.Needs.{needs}
 use native.Mathlib.Omega.{arith}
 use mathlib.Core.Path.{_≡_, refl, sym, _∙_}
@@ -20,10 +21,10 @@ abbrev isNone : Room → ℕ → Bool
 isNone r j = eqb (entryAt r j .mode) 0
 
 abbrev Inv-loop : tie.InvT-loop
-Inv-loop self i₀ i = (i ≤ 16) × (allBelow i (isNone self) ≡ true)
+Inv-loop self i₀ i = (i ≤ roomLimit) × (allBelow i (isNone self) ≡ true)
 
 abbrev μ-loop : tie.MeasureT-loop
-μ-loop self i₀ i = 16 - i
+μ-loop self i₀ i = roomLimit - i
 
 -- src/lib.rt:131:9
 loop-holds : tie.Need-loop-holds Inv-loop μ-loop
@@ -42,7 +43,7 @@ returns : tie.Need-returns Inv-loop μ-loop
 returns c = 
     let r = c .before .before .before .before .before .args .t1 in
     let i = c .before .before .before .before .loop .i in
-    sym (all-fails (isNone r) 16 i (omega arith) (ne-eqb _ _ (c .if1 .taken))) ∙ no-entries-all r
+    sym (all-fails (isNone r) roomLimit i (omega arith) (ne-eqb _ _ (c .if1 .taken))) ∙ no-entries-all r
 
 -- src/lib.rt:136:13
 add-i : tie.Need-add-i Inv-loop μ-loop
@@ -62,7 +63,7 @@ loop-again c =
 -- src/lib.rt:127:5
 returns-2 : tie.Need-returns-2 Inv-loop μ-loop
 returns-2 c = 
-    let e : c .before .loop .i ≡ 16 = omega arith in
+    let e : c .before .loop .i ≡ roomLimit = omega arith in
     sym (rw e at (c .before .loop .inv .1)) ∙ no-entries-all _
 
 pub has-no-entries-spec : {M : Type 1} → statement M

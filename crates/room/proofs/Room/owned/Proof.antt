@@ -1,3 +1,4 @@
+use Rattle.room.specs.Limits.{roomLimit}
 use borrow.Author.Needs.{needs}
 use native.Mathlib.Omega.{arith}
 use mathlib.Core.Path.{_≡_, refl, sym, _∙_}
@@ -11,10 +12,10 @@ use Rattle.room.proofs.Room.owned.Lts as lts
 use Rattle.room.proofs.larger.Reads as larger-reads
 
 abbrev Inv-loop : tie.InvT-loop
-Inv-loop self best₀ i₀ best i = (i ≤ 16) × (best ≡ strongest self i)
+Inv-loop self best₀ i₀ best i = (i ≤ roomLimit) × (best ≡ strongest self i)
 
 abbrev μ-loop : tie.MeasureT-loop
-μ-loop self best₀ i₀ best i = 16 - i
+μ-loop self best₀ i₀ best i = roomLimit - i
 
 -- src/lib.rt:118:9
 loop-holds : tie.Need-loop-holds Inv-loop μ-loop
@@ -47,7 +48,7 @@ loop-again c = (search needs, strongest-more _ _ _ _ (c .before .before .before 
 -- src/lib.rt:113:5
 returns : tie.Need-returns Inv-loop μ-loop
 returns c = 
-    let e : c .before .loop .i ≡ 16 = omega arith in
+    let e : c .before .loop .i ≡ roomLimit = omega arith in
     owned-strongest _ _ (rw e at (c .before .loop .inv .1))
 
 pub owned-spec : {M : Type 1} → statement M

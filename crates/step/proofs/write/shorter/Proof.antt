@@ -1,3 +1,4 @@
+use Rattle.table.specs.Limits.{queueLimit}
 use borrow.Author.Needs.{needs}
 use native.Mathlib.Omega.{arith}
 use mathlib.Core.Path.{_≡_, refl, _∙_, sym}
@@ -11,10 +12,10 @@ use Rattle.step.proofs.write.shorter.Reads as reads
 use Rattle.step.proofs.write.shorter.Lts as lts
 
 abbrev Inv-loop : tie.InvT-loop
-Inv-loop queue short₀ i₀ short i = (i ≤ 16) × (length short ≡ 16) × (take i short ≡ take i queue)
+Inv-loop queue short₀ i₀ short i = (i ≤ queueLimit) × (length short ≡ queueLimit) × (take i short ≡ take i queue)
 
 abbrev μ-loop : tie.MeasureT-loop
-μ-loop queue short₀ i₀ short i = 16 - i
+μ-loop queue short₀ i₀ short i = queueLimit - i
 
 -- src/finish.rt:23:5
 loop-holds : tie.Need-loop-holds Inv-loop μ-loop
@@ -56,8 +57,8 @@ loop-again c =
 returns : tie.Need-returns Inv-loop μ-loop
 returns c = 
     let k = c .before .loop in
-    let e : k .i ≡ 16 = omega arith in
-    sym (take-all 16 (k .short) (omega arith)) ∙ (rw e at (k .inv .2))
+    let e : k .i ≡ queueLimit = omega arith in
+    sym (take-all queueLimit (k .short) (omega arith)) ∙ (rw e at (k .inv .2))
 
 pub shorter-spec : {M : Type 1} → statement M
 shorter-spec =
