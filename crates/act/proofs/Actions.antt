@@ -1,21 +1,18 @@
 -- What each event's code does, as the rules have it, over plain values: the functions' proofs cite these.
 use mathlib.Core.Path.{_≡_, refl, sym, _∙_, ap}
-use mathlib.Core.Bool.{Bool, true, false, not, _&&_, and-false}
-use mathlib.Core.List.{List, [], _∷_}
-use Prim.Native.Nat.{ℕ, suc, _+_, _-_, _≤_, _<_}
+use mathlib.Core.Bool.{Bool, true, false, not, and-false}
+use Prim.Native.Nat.{ℕ, _≤_, _<_}
 use native.Mathlib.Omega.{arith}
 use lib.Dec.{eqb}
-use lib.ListN.{length, getD}
-use lib.Seq.{slice, slice-empty, slice-cons}
+use lib.ListN.{length}
+use lib.Seq.{slice-empty, slice-cons}
 use borrow.Author.Tests.{eq-eqb, ne-eqb, not-true, not-false}
-use Rattle.base.specs.Choice.{if_then_else_}
 use Rattle.modes.specs.Codes.{W}
 use Rattle.modes.specs.Modes.{agrees, canLend}
 use Rattle.room.specs.declared.Room.{Room}
 use Rattle.room.specs.declared.Changed.{Changed}
 use Rattle.room.specs.Owned.{owned, hasNoEntries}
 use Rattle.room.specs.Rules.{granted, tokened, reduced}
-use Rattle.table.specs.declared.Queued.{Queued}
 use Rattle.table.specs.declared.Message.{Message}
 use Rattle.table.specs.declared.Message.the-variants as msg
 use Rattle.table.specs.Tables.{noQueued}

@@ -1,36 +1,33 @@
 -- What the changes of a desk are as work, over plain values: the functions' proofs cite these.
 use mathlib.Core.Path.{_≡_, refl, sym, _∙_, ap}
-use mathlib.Core.Bool.{Bool, true, false, not, _&&_, _||_, and-false}
-use mathlib.Core.List.{List, [], _∷_, _++_}
-use Prim.Native.Nat.{ℕ, suc, _+_, _-_, _≤_, _<_}
+use mathlib.Core.Bool.{Bool, true, false, not, _||_}
+use mathlib.Core.List.{List, [], _∷_}
+use Prim.Native.Nat.{ℕ, _+_, _≤_, _<_}
 use native.Mathlib.Numerals.{add-one}
 use native.Mathlib.Omega.{arith}
 use lib.Dec.{eqb}
-use lib.ListN.{length, getD, set, take, drop, length-take}
-use lib.Seq.{slice, take-suc-set, slice-empty, slice-cons, drop-append-le, length-take-le}
+use lib.ListN.{length, set, take}
+use lib.Seq.{slice, take-suc-set, drop-append-le, length-take-le}
 use borrow.Author.Tests.{eq-eqb, ne-eqb, not-true, not-false}
-use Rattle.base.specs.Choice.{if_then_else_}
-use Rattle.base.specs.Arrays.{padded, padded-set}
-use Rattle.modes.specs.Codes.{U, W}
-use Rattle.modes.specs.Modes.{agrees, canLend}
+use Rattle.base.specs.Arrays.{padded-set}
+use Rattle.modes.specs.Codes.{W}
 use Rattle.room.specs.declared.Room.{Room}
 use Rattle.room.specs.declared.Changed.{Changed}
 use Rattle.room.specs.declared.Lent.{Lent}
 use Rattle.room.specs.declared.Passed.{Passed}
-use Rattle.room.specs.declared.Send.{Send}
 use Rattle.room.specs.declared.Send.the-variants as out
 use Rattle.room.specs.Record.{withModes}
-use Rattle.room.specs.Owned.{owned, hasNoEntries}
+use Rattle.room.specs.Owned.{hasNoEntries}
 use Rattle.room.specs.Rules.{lent, passed, settled}
 use Rattle.table.specs.declared.Queued.{Queued}
 use Rattle.table.specs.declared.Wire.{Wire}
 use Rattle.table.specs.declared.Message.{Message}
 use Rattle.table.specs.declared.Message.the-variants as msg
 use Rattle.table.specs.Tables.{noWire}
-use Rattle.rules.specs.Work.{Work, withRoom, withQueue, withWorn, send, join, sendOut, change}
-use Rattle.rules.specs.Rules.{hold, want, lend, pass, settle, upgradeWaits, upgraded, serveQueue, serve}
+use Rattle.rules.specs.Work.{send, join, sendOut, change}
+use Rattle.rules.specs.Rules.{hold, want, lend, pass, settle, upgradeWaits, upgraded}
 use Rattle.act.specs.declared.desk.Desk.{Desk}
-use Rattle.act.specs.Desk.{workOf, outLimit, Clean, Stays, Joins, Sends}
+use Rattle.act.specs.Desk.{workOf, outLimit, Stays, Joins, Sends}
 
 -- a desk with another record, other messages, or another queue
 abbrev pub atRoom : Desk → Room → Desk
@@ -49,12 +46,15 @@ module _ (d : Desk) (y : ℕ) (m : Message) where
   pub post-is : d .sent < length (d .out) → d .sent < outLimit → Sends d (atOut d (set (d .out) (d .sent) (record { «from» = d .me; to = y; message = m })) (d .sent + 1)) (send (workOf d) y m)
   unfolding send
   post-is h low =
-      record
-        { holds =
-              ap (λ (s : List Wire). record { me = d .me; room = d .room; queue = slice (d .first) (d .last) (d .queue); sent = s; worn = d .worn })
-              (rw add-one (take-suc-set (d .out) (d .sent) (record { «from» = d .me; to = y; message = m }) h))
-        ; first = refl; last = refl; most = omega arith
-        ; clean = λ k. record { blank = padded-set outLimit noWire (d .out) (d .sent) _ h low (k .blank) } }
+      record {
+        holds =
+            ap (λ (s : List Wire). record { me = d .me; room = d .room; queue = slice (d .first) (d .last) (d .queue); sent = s; worn = d .worn })
+            (rw add-one (take-suc-set (d .out) (d .sent) (record { «from» = d .me; to = y; message = m }) h));
+        first = refl;
+        last = refl;
+        most = omega arith;
+        clean = λ k. record { blank = padded-set outLimit noWire (d .out) (d .sent) _ h low (k .blank) };
+      }
 
 module _ (d : Desk) (y m : ℕ) where
   pub join-is : d .first ≤ d .last → d .last < length (d .queue)
@@ -63,11 +63,15 @@ module _ (d : Desk) (y m : ℕ) where
   join-is o h =
       let q : Queued = record { room = y; mode = m } in
       let long : d .first ≤ length (take (d .last) (d .queue)) = simp (length-take-le (d .last) (d .queue) (omega arith)) (omega arith) in
-      record
-        { holds =
-              ap (λ (s : List Queued). record { me = d .me; room = d .room; queue = s; sent = take (d .sent) (d .out); worn = d .worn })
-              (rw (add-one, take-suc-set (d .queue) (d .last) q h) (drop-append-le (d .first) (take (d .last) (d .queue)) (q ∷ []) long))
-        ; first = refl; last = refl; sent = refl; out = refl }
+      record {
+        holds =
+            ap (λ (s : List Queued). record { me = d .me; room = d .room; queue = s; sent = take (d .sent) (d .out); worn = d .worn })
+            (rw (add-one, take-suc-set (d .queue) (d .last) q h) (drop-append-le (d .first) (take (d .last) (d .queue)) (q ∷ []) long));
+        first = refl;
+        last = refl;
+        sent = refl;
+        out = refl;
+      }
 
 module _ (d : Desk) (c : Changed) where
   pub change-nothing : c .send ≡ out.Nothing → Sends d (atRoom d (c .room)) (change (workOf d) c)

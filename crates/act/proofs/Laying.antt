@@ -1,22 +1,21 @@
 -- Laying out a desk and tidying it up: the queue goes from an array to the desk and back, and loses nothing.
 use Rattle.table.specs.Limits.{queueLimit}
 use mathlib.Core.Path.{_≡_, refl, sym, _∙_, ap}
-use mathlib.Core.Bool.{Bool, false}
+use mathlib.Core.Bool.{false}
 use mathlib.Core.List.{List, [], _∷_, _++_}
 use Prim.Native.Nat.{ℕ, suc, _+_, _-_, _≤_, _<_}
 use native.Mathlib.Numerals.{add-one}
 use native.Mathlib.Omega.{arith}
-use lib.ListN.{length, getD, set, take, drop, replicate}
+use lib.ListN.{length, getD, set, take, replicate}
 use lib.Seq.{slice, length-slice, slice-empty, take-suc, take-suc-set, take-take, take-all, drop-append-le, length-take-le}
 use Rattle.base.specs.Arrays.{padded, padded-snoc}
 use Rattle.table.specs.declared.Queued.{Queued}
-use Rattle.table.specs.declared.Wire.{Wire}
 use Rattle.table.specs.Tables.{noWire, noQueued}
 use Rattle.rules.specs.Work.{Work}
 use Rattle.act.specs.declared.Start.{Start}
 use Rattle.act.specs.declared.Done.{Done}
 use Rattle.act.specs.declared.desk.Desk.{Desk}
-use Rattle.act.specs.Desk.{placeLimit, outLimit, workOf, Clean, Starts, Ends}
+use Rattle.act.specs.Desk.{placeLimit, outLimit, workOf, Ends}
 use Rattle.act.specs.Done.{startOf, doneOf, Lays}
 
 -- one place more is copied
@@ -33,9 +32,10 @@ module _ (s : Start) (q : List Queued) (long : length (s .queue) ≡ queueLimit)
   lays : (k : ℕ) → k ≤ queueLimit → take k q ≡ take (s .queued) (s .queue) → Lays s (laid s q k)
   unfolding padded
   lays k h p =
-      record
-        { holds = ap (λ (l : List Queued). record { me = s .me; room = s .room; queue = l; sent = []; worn = false }) p
-        ; starts = record { first = refl; last = h; sent = refl; clean = record { blank = refl } } }
+      record {
+        holds = ap (λ (l : List Queued). record { me = s .me; room = s .room; queue = l; sent = []; worn = false }) p;
+        starts = record { first = refl; last = h; sent = refl; clean = record { blank = refl } };
+      }
 
   pub lays-part : s .queued < queueLimit → Lays s (laid s q (s .queued))
   lays-part h =

@@ -15,7 +15,7 @@ use Rattle.modes.specs.Modes.{agrees, canLend}
 use Rattle.room.specs.Owned.{owned, hasNoEntries}
 use Rattle.table.specs.declared.Queued.{Queued}
 use Rattle.table.specs.Tables.{noQueued}
-use Rattle.rules.specs.Work.{Work, withQueue, withWorn, send}
+use Rattle.rules.specs.Work.{Work, withQueue, send}
 use Rattle.rules.specs.Rules.{hold, lend, pass, upgradeWaits, upgraded, serveQueue, serve}
 use Rattle.act.specs.declared.desk.Desk.{Desk}
 use Rattle.act.specs.Desk.{workOf, Clean, Stays, Sends, Ends, Ready, Turns, rest}
@@ -101,9 +101,11 @@ module _ (d : Desk) (ready : Ready d) where
         pub turn-conflict : not g ≡ true → Turns d false d
         unfolding head
         turn-conflict h =
-            record
-              { same = sym stays ∙ sym (serve-conflict (workOf d) head after (sym p ∙ free) (rw r at (sym s ∙ not-true g h))) ∙ here
-              ; ready = ready; falls = omega arith }
+            record {
+              same = sym stays ∙ sym (serve-conflict (workOf d) head after (sym p ∙ free) (rw r at (sym s ∙ not-true g h))) ∙ here;
+              ready = ready;
+              falls = omega arith;
+            }
 
         module _ (fits : not g ≡ false) where
           next : Desk
@@ -114,10 +116,12 @@ module _ (d : Desk) (ready : Ready d) where
               → Turns d true e
           unfolding head after hold
           turn-self same e t =
-              record
-                { same = ap (rest true) (rw add-one at (t .holds)) ∙ queue-free after after (hold (workOf d) (head .mode))
-                ∙ sym (serve-self (workOf d) head after (sym p ∙ free) (rw r at (sym s ∙ not-false g fits)) same) ∙ here
-                ; ready = record { order = omega arith; places = omega arith; «room» = omega arith; clean = stays-clean d e (ready .clean) (t .sent) (t .out) }; falls = omega arith }
+              record {
+                same = ap (rest true) (rw add-one at (t .holds)) ∙ queue-free after after (hold (workOf d) (head .mode))
+                    ∙ sym (serve-self (workOf d) head after (sym p ∙ free) (rw r at (sym s ∙ not-false g fits)) same) ∙ here;
+                ready = record { order = omega arith; places = omega arith; «room» = omega arith; clean = stays-clean d e (ready .clean) (t .sent) (t .out) };
+                falls = omega arith;
+              }
 
           module _ (other : getD (d .queue) (d .first) noQueued .room ≡ d .me → ⊥) (k : Bool) (u : k ≡ canLend o (getD (d .queue) (d .first) noQueued .mode)) where
             pub turn-lend : k ≡ true → (e : Desk)
@@ -125,20 +129,24 @@ module _ (d : Desk) (ready : Ready d) where
                 → Turns d true e
             unfolding head after lend send
             turn-lend h e t =
-                record
-                  { same = ap (rest true) (rw add-one at (t .holds)) ∙ queue-free after after (lend (workOf d) (head .room) (head .mode))
-                  ∙ sym (serve-lend (workOf d) head after (sym p ∙ free) (rw r at (sym s ∙ not-false g fits)) other (rw r at (sym u ∙ h))) ∙ here
-                  ; ready = record { order = omega arith; places = omega arith; «room» = omega arith; clean = t .clean (record { blank = ready .clean .blank }) }; falls = omega arith }
+                record {
+                  same = ap (rest true) (rw add-one at (t .holds)) ∙ queue-free after after (lend (workOf d) (head .room) (head .mode))
+                      ∙ sym (serve-lend (workOf d) head after (sym p ∙ free) (rw r at (sym s ∙ not-false g fits)) other (rw r at (sym u ∙ h))) ∙ here;
+                  ready = record { order = omega arith; places = omega arith; «room» = omega arith; clean = t .clean (record { blank = ready .clean .blank }) };
+                  falls = omega arith;
+                }
 
             pub turn-pass : k ≡ false → (e : Desk)
                 → Sends (atQueue d (d .queue) (d .first + 1) (d .last)) e (pass (workOf (atQueue d (d .queue) (d .first + 1) (d .last))) (getD (d .queue) (d .first) noQueued .room) (getD (d .queue) (d .first) noQueued .mode))
                 → Turns d false e
             unfolding head after
             turn-pass h e t =
-                record
-                  { same = (rw add-one at (t .holds))
-                  ∙ sym (serve-pass (workOf d) head after (sym p ∙ free) (rw r at (sym s ∙ not-false g fits)) other (rw r at (sym u ∙ h))) ∙ here
-                  ; ready = record { order = omega arith; places = omega arith; «room» = omega arith; clean = t .clean (record { blank = ready .clean .blank }) }; falls = omega arith }
+                record {
+                  same = (rw add-one at (t .holds))
+                      ∙ sym (serve-pass (workOf d) head after (sym p ∙ free) (rw r at (sym s ∙ not-false g fits)) other (rw r at (sym u ∙ h))) ∙ here;
+                  ready = record { order = omega arith; places = omega arith; «room» = omega arith; clean = t .clean (record { blank = ready .clean .blank }) };
+                  falls = omega arith;
+                }
 
 -- the loop's turn, where its test has passed
 module _ (d e : Desk) (again after : Bool) (h : again ≡ true) (t : Turns d after e) where
@@ -151,9 +159,13 @@ module _ (d e : Desk) (again after : Bool) (h : again ≡ true) (t : Turns d aft
 -- the loop's end: what was to be done of the upgraded desk is done
 pub serve-is : (d u e : Desk) (again : Bool) → again ≡ false → Stays d u (upgraded (workOf d)) → rest again (workOf e) ≡ rest true (workOf u) → Ready e → Ends e (serve (workOf d))
 unfolding serve upgraded hold
-serve-is d u e again f s h r = record
-      { holds = ap (λ (b : Bool). rest b (workOf e)) (sym f) ∙ h ∙ ap (rest true) (s .holds) ∙ same; order = omega arith; places = omega arith
-      ; sent = omega arith; clean = r .clean }
+serve-is d u e again f s h r = record {
+  holds = ap (λ (b : Bool). rest b (workOf e)) (sym f) ∙ h ∙ ap (rest true) (s .holds) ∙ same;
+  order = omega arith;
+  places = omega arith;
+  sent = omega arith;
+  clean = r .clean;
+}
   where
     same : rest true (upgraded (workOf d)) ≡ serveQueue (upgraded (workOf d)) (workOf d .queue)
     same = ap (serveQueue (upgraded (workOf d))) (by-test (λ (w : Work). w .queue ≡ workOf d .queue) (upgradeWaits (d .room) && hasNoEntries (d .room)) _ _ (λ p. refl) (λ p. refl))

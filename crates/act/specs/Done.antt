@@ -1,5 +1,4 @@
 -- What goes in and what comes out: a room's work before and after, with its lists in arrays.
-use Prim.Native.Nat.{ℕ}
 use mathlib.Core.Path.{_≡_}
 use mathlib.Core.Bool.{false}
 use mathlib.Core.List.{[]}
@@ -19,9 +18,14 @@ startOf s = record { me = s .me; room = s .room; queue = take (s .queued) (s .qu
 -- what a room has done, its lists laid into arrays
 abbrev pub doneOf : Work → Done
 doneOf w =
-    record
-      { room = w .room; queue = padded placeLimit noQueued (w .queue); queued = length (w .queue); out = padded outLimit noWire (w .sent)
-      ; sent = length (w .sent); worn = w .worn }
+    record {
+      room = w .room;
+      queue = padded placeLimit noQueued (w .queue);
+      queued = length (w .queue);
+      out = padded outLimit noWire (w .sent);
+      sent = length (w .sent);
+      worn = w .worn;
+    }
 
 -- desk r is laid out with s
 pub record Lays (s : Start) (r : Desk) : Type 0 where

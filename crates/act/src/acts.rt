@@ -4,7 +4,7 @@ ghost use Prim.Native.Nat.{_<_};
 ghost use Rattle.rules.specs.Rules as rules;
 ghost use Rattle.act.specs.Desk.{outLimit, workOf, Starts, Ready, Ends};
 ghost use Rattle.act.specs.Acts.{lendsOn};
-
+use crate::desk::Desk;
 use crate::desk::change;
 use crate::desk::hold;
 use crate::desk::join;
@@ -13,7 +13,6 @@ use crate::desk::post;
 use crate::desk::serve;
 use crate::desk::settle;
 use crate::desk::want;
-use crate::desk::Desk;
 use table::Message;
 
 // The room has the token: it holds m, or waits at the end of the queue.
@@ -41,7 +40,15 @@ fn ask_without(d: Desk, m: u8) -> Desk
     if modes::can_lend(own, m) {
         return hold(d, m);
     }
-    post(want(d, m), room.toward, Message::Request { origin: d.me, mode: m, idle: own == modes::NONE })
+    post(
+        want(d, m),
+        room.toward,
+        Message::Request {
+            origin: d.me,
+            mode: m,
+            idle: own == modes::NONE,
+        },
+    )
 }
 
 // ASK.
@@ -111,7 +118,15 @@ fn take_request(d: Desk, o: u8, m: u8, idle: bool) -> Desk
     if lends_on(d, o, m, idle) {
         return settle(lend(d, o, m));
     }
-    post(d, d.room.toward, Message::Request { origin: o, mode: m, idle: idle })
+    post(
+        d,
+        d.room.toward,
+        Message::Request {
+            origin: o,
+            mode: m,
+            idle: idle,
+        },
+    )
 }
 
 // The message taken from a arrives.
@@ -124,7 +139,10 @@ pub fn receive(d: Desk, a: u8, message: Message) -> Desk
         Message::Nothing => d,
         Message::Request { origin, mode, idle } => take_request(d, origin, mode, idle),
         Message::Grant { mode, link } => change(d, room.take_grant(a, mode, link)),
-        Message::Token { mode, rest, link } => serve(change(d, room.take_token(d.me, a, mode, rest, link))),
+        Message::Token { mode, rest, link } => serve(change(
+            d,
+            room.take_token(d.me, a, mode, rest, link),
+        )),
         Message::Reduce { link, mode } => {
             let mut e = d;
             e.room = room.take_reduce(a, link, mode);

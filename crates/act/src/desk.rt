@@ -6,15 +6,14 @@ ghost use Prim.Native.Nat.{_<_, _≤_};
 ghost use Rattle.rules.specs.Rules as rules;
 ghost use Rattle.rules.specs.Work as work;
 ghost use Rattle.act.specs.Desk.{placeLimit, outLimit, workOf, Stays, Joins, Sends, Ends, Ready, Turns};
-
+use crate::OUTBOX;
+use crate::PLACES;
 use room::Changed;
 use room::Room;
 use room::Send;
 use table::Message;
 use table::Queued;
 use table::Wire;
-use crate::OUTBOX;
-use crate::PLACES;
 
 // The queue's places from first to last are still in it.
 pub struct Desk {
@@ -41,7 +40,11 @@ pub fn post(d: Desk, y: u8, message: Message) -> Desk
 {
     let at = d.sent;
     let mut e = d;
-    e.out[at] = Wire { from: d.me, to: y, message: message };
+    e.out[at] = Wire {
+        from: d.me,
+        to: y,
+        message: message,
+    };
     e.sent = at + 1;
     e
 }
@@ -69,7 +72,14 @@ pub fn change(d: Desk, c: Changed) -> Desk
     let send = c.send;
     match send {
         Send::Nothing => e,
-        Send::Reduce { to, link, mode } => post(e, to, Message::Reduce { link: link, mode: mode }),
+        Send::Reduce { to, link, mode } => post(
+            e,
+            to,
+            Message::Reduce {
+                link: link,
+                mode: mode,
+            },
+        ),
     }
 }
 
@@ -110,7 +120,14 @@ pub fn lend(d: Desk, y: u8, m: u8) -> Desk
     let mut e = d;
     e.room = after;
     e.worn = either(d.worn, l.worn);
-    post(e, y, Message::Grant { mode: m, link: l.link })
+    post(
+        e,
+        y,
+        Message::Grant {
+            mode: m,
+            link: l.link,
+        },
+    )
 }
 
 // Pass the token to y.
@@ -124,7 +141,15 @@ fn pass(d: Desk, y: u8, m: u8) -> Desk
     let mut e = d;
     e.room = after;
     e.worn = either(d.worn, p.worn);
-    post(e, y, Message::Token { mode: m, rest: p.rest, link: p.link })
+    post(
+        e,
+        y,
+        Message::Token {
+            mode: m,
+            rest: p.rest,
+            link: p.link,
+        },
+    )
 }
 
 // Without the token: what is owed falls to what is owned.
@@ -164,26 +189,44 @@ fn turn(d: Desk) -> Turned
 {
     let at = d.first;
     if at >= d.last {
-        return Turned { desk: d, again: false };
+        return Turned {
+            desk: d,
+            again: false,
+        };
     }
     let room = d.room;
     if upgrade_waits(room) {
-        return Turned { desk: d, again: false };
+        return Turned {
+            desk: d,
+            again: false,
+        };
     }
     let q = d.queue[at];
     let own = room.owned();
     if !modes::agree(own, q.mode) {
-        return Turned { desk: d, again: false };
+        return Turned {
+            desk: d,
+            again: false,
+        };
     }
     let mut e = d;
     e.first = at + 1;
     if q.room == d.me {
-        return Turned { desk: hold(e, q.mode), again: true };
+        return Turned {
+            desk: hold(e, q.mode),
+            again: true,
+        };
     }
     if modes::can_lend(own, q.mode) {
-        return Turned { desk: lend(e, q.room, q.mode), again: true };
+        return Turned {
+            desk: lend(e, q.room, q.mode),
+            again: true,
+        };
     }
-    Turned { desk: pass(e, q.room, q.mode), again: false }
+    Turned {
+        desk: pass(e, q.room, q.mode),
+        again: false,
+    }
 }
 
 // With the token: a waiting upgrade, then the queue.

@@ -10,9 +10,9 @@ mod desk;
 use desk::Desk;
 use room::Room;
 use table::Message;
+use table::QUEUE;
 use table::Queued;
 use table::Wire;
-use table::QUEUE;
 
 // The places of a queue while a room acts: one may join a full one.
 pub const PLACES: usize = QUEUE + 1;
@@ -41,7 +41,11 @@ pub struct Done {
 fn lay_out(s: Start) -> Desk
     ensures { λ r. ⌜ Lays s r ⌝ }
 {
-    let nothing = Wire { from: 0, to: 0, message: Message::Nothing };
+    let nothing = Wire {
+        from: 0,
+        to: 0,
+        message: Message::Nothing,
+    };
     let mut queue = [Queued { room: 0, mode: 0 }; PLACES];
     let mut i: usize = 0;
     while i < QUEUE {
@@ -51,7 +55,16 @@ fn lay_out(s: Start) -> Desk
     }
     let room = s.room;
     let last = if s.queued < QUEUE { s.queued } else { QUEUE };
-    Desk { me: s.me, room: room, queue: queue, first: 0, last: last, out: [nothing; OUTBOX], sent: 0, worn: false }
+    Desk {
+        me: s.me,
+        room: room,
+        queue: queue,
+        first: 0,
+        last: last,
+        out: [nothing; OUTBOX],
+        sent: 0,
+        worn: false,
+    }
 }
 
 // What the desk holds, with the queue from its first place on.
@@ -70,7 +83,14 @@ fn tidy(d: Desk) -> Done
     }
     let room = d.room;
     let out = d.out;
-    Done { room: room, queue: queue, queued: last - first, out: out, sent: d.sent, worn: d.worn }
+    Done {
+        room: room,
+        queue: queue,
+        queued: last - first,
+        out: out,
+        sent: d.sent,
+        worn: d.worn,
+    }
 }
 
 // ASK: the room asks for m.

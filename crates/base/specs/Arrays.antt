@@ -5,7 +5,7 @@ use mathlib.Core.List.{List, [], _∷_, _++_, append-assoc}
 use Prim.Native.Nat.{ℕ, zero, suc, _+_, _-_, _≤_, _<_}
 use native.Mathlib.Numerals.{add-one}
 use native.Mathlib.Omega.{arith}
-use lib.ListN.{length, getD, set, take, replicate, length-append, length-replicate, replicate-append-replicate, List·getD-append, List·getD-eq-default}
+use lib.ListN.{length, getD, set, take, replicate, length-append, length-replicate, replicate-append-replicate, List·getD-append}
 use Rattle.base.specs.Sums.{below?}
 use lib.Seq.{getD-take, getD-append-add, ext-getD, take-at, take-append-add, length-take-le, set-append-seam, take-suc-set}
 

@@ -125,23 +125,25 @@ module _ (t : Table) (standings : List Standing) (times : List ℕ) (held i : �
   unfolding namesBy
   looked-times at h =
       omega (
-      arith,
-      k .named .at at h,
-      count-le (inPlace at) (queueOf t),
-      length-take (t .queued) (t .queue),
-      fit-queue (t .n) (t .queued) (t .count) (k .sizes),
-      prefix-low (inMessage at) (t .wires) (t .count) i)
+        arith,
+        k .named .at at h,
+        count-le (inPlace at) (queueOf t),
+        length-take (t .queued) (t .queue),
+        fit-queue (t .n) (t .queued) (t .count) (k .sizes),
+        prefix-low (inMessage at) (t .wires) (t .count) i,
+      )
 
   pub looked-tokens : (more : ℕ) → more ≡ one (withToken (wireAt t i)) → held + more ≤ 17 + i
   unfolding tokensBy
   looked-tokens more e =
       omega (
-      arith,
-      k .carried,
-      fits,
-      one-le (withToken (wireAt t i)),
-      count-below-le (t .n) (λ c. roomAt t c .token),
-      prefix-low withToken (t .wires) (t .count) i)
+        arith,
+        k .carried,
+        fits,
+        one-le (withToken (wireAt t i)),
+        count-below-le (t .n) (λ c. roomAt t c .token),
+        prefix-low withToken (t .wires) (t .count) i,
+      )
 
   -- the wire at i
   module _ (turn : i < 256) (b : Bool) (e : b ≡ wirePlaceFine (t .n) standings (ltb i (t .count)) (wireAt t i)) where
@@ -163,16 +165,19 @@ module _ (t : Table) (standings : List Standing) (times : List ℕ) (held i : �
           → (c : ℕ) → c < 16 → namesBy t (i + 1) c ≡ namesBy t i c + one (eqb at c)
       unfolding namesBy
       names-next at p c l =
-          omega (arith, prefix-next
-            (inMessage c)
-            (t .wires)
-            (t .count)
-            noWire
-            i
-            (omega arith)
-            (eqb at c)
-            (λ u. hit)
-            (λ u. hit ∙ blank-name (wireAt t i) (blank u) c))
+          omega (
+            arith,
+            prefix-next
+                (inMessage c)
+                (t .wires)
+                (t .count)
+                noWire
+                i
+                (omega arith)
+                (eqb at c)
+                (λ u. hit)
+                (λ u. hit ∙ blank-name (wireAt t i) (blank u) c),
+          )
         where
           hit : eqb at c ≡ inMessage c (wireAt t i)
           hit = rw p (sym (named-is c l (wireAt t i .to) (wireAt t i .message)))
@@ -180,16 +185,20 @@ module _ (t : Table) (standings : List Standing) (times : List ℕ) (held i : �
       tokens-next : held + one (withToken (wireAt t i)) ≡ tokensBy t (i + 1)
       unfolding tokensBy
       tokens-next =
-          omega (arith, k .carried, prefix-next
-            withToken
-            (t .wires)
-            (t .count)
-            noWire
-            i
-            (omega arith)
-            (withToken (wireAt t i))
-            (λ u. refl)
-            (λ u. blank-token (wireAt t i) (blank u)))
+          omega (
+            arith,
+            k .carried,
+            prefix-next
+                withToken
+                (t .wires)
+                (t .count)
+                noWire
+                i
+                (omega arith)
+                (withToken (wireAt t i))
+                (λ u. refl)
+                (λ u. blank-token (wireAt t i) (blank u)),
+          )
 
       pub looked-next : (more : ℕ) → more ≡ one (withToken (wireAt t i)) → (after : List ℕ) → Counted after (namesBy t (i + 1))
           → Looked t standings after (held + more) (i + 1)

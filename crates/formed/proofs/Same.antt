@@ -35,10 +35,11 @@ module _ (n : ℕ) (f g : ℕ → Room) (dues : (c : ℕ) → c < n → due (f c
     unfolding wireFine
     wire-same w =
         split (ltb (w .to) n)
-        (λ e. rw
-          (and-assoc (ltb (w .«from») n && ltb (w .to) n && not (eqb (w .«from») (w .to))) (messageFine n (w .message)) (namesRightly f (w .to) (w .message)),
-            and-assoc (ltb (w .«from») n && ltb (w .to) n && not (eqb (w .«from») (w .to))) (messageFine n (w .message)) (namesRightly g (w .to) (w .message)),
-            names-same (w .to) (ltb-true (w .to) n e) (w .message)))
+        (λ e. rw (
+          and-assoc (ltb (w .«from») n && ltb (w .to) n && not (eqb (w .«from») (w .to))) (messageFine n (w .message)) (namesRightly f (w .to) (w .message)),
+          and-assoc (ltb (w .«from») n && ltb (w .to) n && not (eqb (w .«from») (w .to))) (messageFine n (w .message)) (namesRightly g (w .to) (w .message)),
+          names-same (w .to) (ltb-true (w .to) n e) (w .message),
+        ))
         (λ e. simp (e, and-false))
 
 -- a message names the room that the code finds

@@ -3,15 +3,13 @@ ghost use mathlib.Core.Path.{_≡_};
 ghost use Rattle.base.specs.Choice.{if_then_else_};
 ghost use Rattle.room.specs.Limits.{roomLimit};
 ghost use Rattle.formed.specs.Names.{queuePlaceFine, namedIn};
-
+use super::ranges::is_mode;
+use super::rooms::Standing;
+use super::rooms::standing_at;
 use modes::NONE;
 use room::ROOMS;
 use table::QUEUE;
 use table::Queued;
-
-use super::ranges::is_mode;
-use super::rooms::Standing;
-use super::rooms::standing_at;
 
 // Whether all places are as they should be; if so, how often each room is named.
 pub struct Named {
@@ -56,7 +54,10 @@ pub fn look_over(n: u8, rooms: [Standing; ROOMS], queue: [Queued; QUEUE], queued
     while i < QUEUE {
         let q = queue[i];
         if !place_fine(n, rooms, i < queued, q) {
-            return Named { fine: false, times: none };
+            return Named {
+                fine: false,
+                times: none,
+            };
         }
         let at = named_by(i < queued, q);
         if at < ROOMS {
@@ -64,5 +65,8 @@ pub fn look_over(n: u8, rooms: [Standing; ROOMS], queue: [Queued; QUEUE], queued
         }
         i += 1;
     }
-    Named { fine: true, times: times }
+    Named {
+        fine: true,
+        times: times,
+    }
 }

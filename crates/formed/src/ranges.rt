@@ -2,7 +2,6 @@
 ghost use mathlib.Core.Path.{_≡_};
 ghost use Rattle.table.specs.Formed.{isCode, isMode, sizesFit};
 ghost use Rattle.formed.specs.Parts.{isGranted};
-
 use modes::IR;
 use modes::IW;
 use modes::NONE;

@@ -4,7 +4,7 @@ ghost use lib.ListN.{getD};
 ghost use Rattle.table.specs.Formed.{entryFine, isBlankRoom};
 ghost use Rattle.formed.specs.Parts.{holdsRightly, owesRightly, entriesFine, placeFine};
 ghost use Rattle.formed.specs.Seen.{noStanding, standing, seenIn};
-
+use super::ranges::is_code;
 use modes::IR;
 use modes::IW;
 use modes::NONE;
@@ -15,8 +15,6 @@ use room::Entry;
 use room::NOBODY;
 use room::ROOMS;
 use room::Room;
-
-use super::ranges::is_code;
 
 // What the queue and the messages are tested against: the mode that a room waits for, and whether it has the token.
 pub struct Standing {
@@ -148,8 +146,14 @@ fn standing_of(r: Room) -> Standing
 {
     let held = r.held;
     match held {
-        NONE => Standing { due: r.wanted, token: r.token },
-        1..=255 => Standing { due: 0, token: r.token },
+        NONE => Standing {
+            due: r.wanted,
+            token: r.token,
+        },
+        1..=255 => Standing {
+            due: 0,
+            token: r.token,
+        },
     }
 }
 
@@ -157,14 +161,21 @@ fn standing_of(r: Room) -> Standing
 pub fn look_over(n: u8, rooms: [Room; ROOMS]) -> Seen
     ensures { λ s. ⌜ s ≡ seenIn n rooms ⌝ }
 {
-    let none = [Standing { due: 0, token: false }; ROOMS];
+    let none = [Standing {
+        due: 0,
+        token: false,
+    }; ROOMS];
     let mut standings = none;
     let mut tokens: usize = 0;
     let mut c: usize = 0;
     while c < ROOMS {
         let r = rooms[c];
         if !room_fine(n, c as u8, r) {
-            return Seen { fine: false, tokens: 0, rooms: none };
+            return Seen {
+                fine: false,
+                tokens: 0,
+                rooms: none,
+            };
         }
         standings[c] = standing_of(r);
         if r.token {
@@ -172,7 +183,11 @@ pub fn look_over(n: u8, rooms: [Room; ROOMS]) -> Seen
         }
         c += 1;
     }
-    Seen { fine: true, tokens: tokens, rooms: standings }
+    Seen {
+        fine: true,
+        tokens: tokens,
+        rooms: standings,
+    }
 }
 
 // The standing of room c, none where there is no such room.
@@ -183,5 +198,8 @@ pub fn standing_at(rooms: [Standing; ROOMS], c: u8) -> Standing
     if at < ROOMS {
         return rooms[at];
     }
-    Standing { due: 0, token: false }
+    Standing {
+        due: 0,
+        token: false,
+    }
 }

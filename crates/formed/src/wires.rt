@@ -4,16 +4,14 @@ ghost use Rattle.base.specs.Sums.{one};
 ghost use Rattle.table.specs.Formed.{messageFine, namesRightly, isBlankWire, isToken};
 ghost use Rattle.formed.specs.Seen.{roomsOf};
 ghost use Rattle.formed.specs.Names.{wirePlaceFine, namedBy};
-
-use room::ROOMS;
-use table::Message;
-use table::Wire;
-
 use super::ranges::is_code;
 use super::ranges::is_granted;
 use super::ranges::is_mode;
 use super::rooms::Standing;
 use super::rooms::standing_at;
+use room::ROOMS;
+use table::Message;
+use table::Wire;
 
 // The codes and the room number in a message.
 fn message_fine(n: u8, message: Message) -> bool

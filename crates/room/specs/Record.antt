@@ -1,7 +1,7 @@
 -- A room's record: its parts, and the record with one part changed.
 use Prim.Native.Nat.{ℕ}
-use mathlib.Core.Bool.{Bool, true, false}
-use mathlib.Core.List.{List, [], _∷_}
+use mathlib.Core.Bool.{Bool, false}
+use mathlib.Core.List.{[]}
 use lib.ListN.{getD, set, replicate}
 use lib.Dec.{eqb}
 use Rattle.base.specs.Choice.{if_then_else_}
@@ -24,9 +24,17 @@ entryAt r c = getD (r .entries) c noEntry
 -- all none or zero
 abbrev pub blankRoom : Room
 blankRoom =
-    record
-      { held = 0; wanted = 0; token = false; toward = 0; lender = nobody; credit = 0; link = 0; counter = 0
-      ; entries = replicate roomLimit noEntry }
+    record {
+      held = 0;
+      wanted = 0;
+      token = false;
+      toward = 0;
+      lender = nobody;
+      credit = 0;
+      link = 0;
+      counter = 0;
+      entries = replicate roomLimit noEntry;
+    }
 
 -- what the language reads past the end of an array of rooms: numbers 0, arrays empty
 abbrev pub noRoom : Room
@@ -36,34 +44,74 @@ noRoom =
 -- the record with another held and another wanted mode
 abbrev pub withModes : Room → ℕ → ℕ → Room
 withModes r h w =
-    record
-      { held = h; wanted = w; token = r .token; toward = r .toward; lender = r .lender; credit = r .credit; link = r .link
-      ; counter = r .counter; entries = r .entries }
+    record {
+      held = h;
+      wanted = w;
+      token = r .token;
+      toward = r .toward;
+      lender = r .lender;
+      credit = r .credit;
+      link = r .link;
+      counter = r .counter;
+      entries = r .entries;
+    }
 
 -- the record with or without the token, and another way to it
 abbrev pub withToken : Room → Bool → ℕ → Room
 withToken r b t =
-    record
-      { held = r .held; wanted = r .wanted; token = b; toward = t; lender = r .lender; credit = r .credit; link = r .link
-      ; counter = r .counter; entries = r .entries }
+    record {
+      held = r .held;
+      wanted = r .wanted;
+      token = b;
+      toward = t;
+      lender = r .lender;
+      credit = r .credit;
+      link = r .link;
+      counter = r .counter;
+      entries = r .entries;
+    }
 
 -- the record with another lender, credit and link number
 abbrev pub withDebt : Room → ℕ → ℕ → ℕ → Room
 withDebt r l c k =
-    record
-      { held = r .held; wanted = r .wanted; token = r .token; toward = r .toward; lender = l; credit = c; link = k
-      ; counter = r .counter; entries = r .entries }
+    record {
+      held = r .held;
+      wanted = r .wanted;
+      token = r .token;
+      toward = r .toward;
+      lender = l;
+      credit = c;
+      link = k;
+      counter = r .counter;
+      entries = r .entries;
+    }
 
 -- the record with another counter
 abbrev pub withCounter : Room → ℕ → Room
 withCounter r k =
-    record
-      { held = r .held; wanted = r .wanted; token = r .token; toward = r .toward; lender = r .lender; credit = r .credit
-      ; link = r .link; counter = k; entries = r .entries }
+    record {
+      held = r .held;
+      wanted = r .wanted;
+      token = r .token;
+      toward = r .toward;
+      lender = r .lender;
+      credit = r .credit;
+      link = r .link;
+      counter = k;
+      entries = r .entries;
+    }
 
 -- the record with another entry for room c
 abbrev pub setEntry : Room → ℕ → Entry → Room
 setEntry r c e =
-    record
-      { held = r .held; wanted = r .wanted; token = r .token; toward = r .toward; lender = r .lender; credit = r .credit
-      ; link = r .link; counter = r .counter; entries = set (r .entries) c e }
+    record {
+      held = r .held;
+      wanted = r .wanted;
+      token = r .token;
+      toward = r .toward;
+      lender = r .lender;
+      credit = r .credit;
+      link = r .link;
+      counter = r .counter;
+      entries = set (r .entries) c e;
+    }

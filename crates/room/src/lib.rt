@@ -63,7 +63,10 @@ fn entry_of(mode: u8, link: u32) -> Entry
 {
     match mode {
         modes::NONE => Entry { mode: 0, link: 0 },
-        1..=255 => Entry { mode: mode, link: link },
+        1..=255 => Entry {
+            mode: mode,
+            link: link,
+        },
     }
 }
 
@@ -145,7 +148,11 @@ impl Room {
         let link = next_link(self.counter);
         let mut room = self.with_entry(y, entry_of(m, link));
         room.counter = link;
-        Lent { room: room, link: link, worn: self.counter >= LAST_LINK }
+        Lent {
+            room: room,
+            link: link,
+            worn: self.counter >= LAST_LINK,
+        }
     }
 
     // Pass the token to w.
@@ -163,9 +170,19 @@ impl Room {
             room.lender = w;
             room.credit = rest;
             room.link = link;
-            return Passed { room: room, rest: rest, link: link, worn: worn };
+            return Passed {
+                room: room,
+                rest: rest,
+                link: link,
+                worn: worn,
+            };
         }
-        Passed { room: room, rest: rest, link: link, worn: worn }
+        Passed {
+            room: room,
+            rest: rest,
+            link: link,
+            worn: worn,
+        }
     }
 
     // Without the token: what is owed falls to what is owned.
@@ -174,17 +191,30 @@ impl Room {
     {
         let now = self.owned();
         if !modes::stronger(self.credit, now) {
-            return Changed { room: self, send: Send::Nothing };
+            return Changed {
+                room: self,
+                send: Send::Nothing,
+            };
         }
-        let send = Send::Reduce { to: self.lender, link: self.link, mode: now };
+        let send = Send::Reduce {
+            to: self.lender,
+            link: self.link,
+            mode: now,
+        };
         let mut room = self;
         room.credit = now;
         if now == modes::NONE {
             room.lender = NOBODY;
             room.link = 0;
-            return Changed { room: room, send: send };
+            return Changed {
+                room: room,
+                send: send,
+            };
         }
-        Changed { room: room, send: send }
+        Changed {
+            room: room,
+            send: send,
+        }
     }
 
     // What taking a loan or the token from a sends to another lender.
@@ -197,7 +227,11 @@ impl Room {
         if self.lender == a {
             return Send::Nothing;
         }
-        Send::Reduce { to: self.lender, link: self.link, mode: 0 }
+        Send::Reduce {
+            to: self.lender,
+            link: self.link,
+            mode: 0,
+        }
     }
 
     // Take a GRANT from a.
@@ -211,7 +245,10 @@ impl Room {
         room.credit = mode;
         room.held = mode;
         room.wanted = 0;
-        Changed { room: room, send: send }
+        Changed {
+            room: room,
+            send: send,
+        }
     }
 
     // Take the TOKEN from a, as room me.
@@ -229,9 +266,15 @@ impl Room {
         room.link = 0;
         if self.counter < link {
             room.counter = link;
-            return Changed { room: room, send: send };
+            return Changed {
+                room: room,
+                send: send,
+            };
         }
-        Changed { room: room, send: send }
+        Changed {
+            room: room,
+            send: send,
+        }
     }
 
     // Take a REDUCE from a: only the loan that it names falls.
@@ -260,5 +303,9 @@ fn larger(a: u8, b: u8) -> u8
 fn next_link(counter: u32) -> u32
     ensures { λ r. ⌜ r ≡ nextLink counter ⌝ }
 {
-    if counter < LAST_LINK { counter + 1 } else { LAST_LINK }
+    if counter < LAST_LINK {
+        counter + 1
+    } else {
+        LAST_LINK
+    }
 }

@@ -1,5 +1,4 @@
 -- Events given as numbers. An argument that an event does not use is ignored.
-use Prim.Native.Nat.{ℕ}
 use mathlib.Core.Bool.{Bool}
 use lib.Dec.{eqb}
 use Rattle.rules.specs.declared.Event.{Event}

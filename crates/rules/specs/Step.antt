@@ -1,6 +1,5 @@
 -- The step: the first refusal that applies, or what the rules make of the table.
 use Prim.Native.Nat.{ℕ}
-use mathlib.Core.Bool.{Bool, not}
 use mathlib.Core.List.{List, _++_}
 use lib.ListN.{length, set}
 use lib.Dec.{ltb, eqb}
@@ -24,9 +23,14 @@ use Rattle.rules.specs.Refusals.{refusal}
 -- the table after what a room did: its record, the queue, the messages that were left, and then those that it sent
 unfoldable pub after : Table → List Wire → Work → Table
 after t kept w =
-    record
-      { n = t .n; rooms = set (t .rooms) (w .me) (w .room); queue = padded queueLimit noQueued (w .queue); queued = length (w .queue)
-      ; wires = padded wireLimit noWire (kept ++ w .sent); count = length (kept ++ w .sent) }
+    record {
+      n = t .n;
+      rooms = set (t .rooms) (w .me) (w .room);
+      queue = padded queueLimit noQueued (w .queue);
+      queued = length (w .queue);
+      wires = padded wireLimit noWire (kept ++ w .sent);
+      count = length (kept ++ w .sent);
+    }
 
 -- "10 WORN: .. another step that needs a link number above 4,294,967,295"; "11 FULL: the step would leave more than 256 messages";
 -- "All but 0 return the table as it came."

@@ -41,9 +41,13 @@ withWorn w b = record { me = w .me; room = w .room; queue = w .queue; sent = w .
 -- a message to room y, after those sent already
 unfoldable pub send : Work → ℕ → Message → Work
 send w y m =
-    record
-      { me = w .me; room = w .room; queue = w .queue; sent = w .sent ++ (record { «from» = w .me; to = y; message = m } ∷ [])
-      ; worn = w .worn }
+    record {
+      me = w .me;
+      room = w .room;
+      queue = w .queue;
+      sent = w .sent ++ (record { «from» = w .me; to = y; message = m } ∷ []);
+      worn = w .worn;
+    }
 
 -- room y joins the end of the queue
 unfoldable pub join : Work → ℕ → ℕ → Work

@@ -1,14 +1,12 @@
 -- Messages taken out of an array and others put behind: the array that the code makes, place by place, is the list that the rules give.
 use mathlib.Core.Path.{_≡_, refl, sym, _∙_, ap}
 use mathlib.Core.Logic.{_≢_, _⊎_, inl, inr}
-use mathlib.Core.Bool.{Bool, true, false}
-use mathlib.Core.List.{List, [], _∷_, _++_}
-use Prim.Native.Nat.{ℕ, suc, _+_, _-_, _≤_, _<_}
-use native.Mathlib.Numerals.{add-one}
+use mathlib.Core.List.{List, _++_}
+use Prim.Native.Nat.{ℕ, _+_, _-_, _≤_, _<_}
 use native.Mathlib.Omega.{arith}
 use lib.Dec.{ltb}
-use lib.ListN.{length, getD, set, take, drop, replicate, length-append, length-replicate, length-take, length-drop, length-set, List·getD-append}
-use lib.Seq.{length-take-le, getD-append-add, getD-take, getD-drop, getD-set-same, getD-set-other, ext-getD, take-append-add, take-at}
+use lib.ListN.{length, getD, set, take, drop, length-append, length-drop, length-set, List·getD-append}
+use lib.Seq.{length-take-le, getD-append-add, getD-take, getD-drop, getD-set-same, getD-set-other, ext-getD}
 use borrow.Author.Tests.{lt-ltb, le-ltb}
 use Rattle.base.specs.Choice.{if_then_else_}
 use Rattle.base.specs.Sums.{same?, below?}
@@ -18,11 +16,9 @@ use Rattle.table.specs.declared.Wire.{Wire}
 use Rattle.table.specs.declared.Queued.{Queued}
 use Rattle.table.specs.Limits.{queueLimit, wireLimit}
 use Rattle.table.specs.Tables.{noWire, noQueued, messagesOf, answer}
-use Rattle.rules.specs.Work.{Work}
 use Rattle.rules.specs.Step.{after}
 use Rattle.act.specs.Desk.{placeLimit, outLimit}
 use Rattle.act.specs.declared.Done.{Done}
-use Rattle.act.specs.Done.{doneOf}
 use Rattle.step.specs.Writes.{without, Takes, Writes}
 
 -- an element of two lists in a row, past the first
@@ -129,9 +125,11 @@ pub mid-more : (start : Table) (goal : ℕ → Wire) (i : ℕ) (u : Table) → M
     → (v : Table) → v ≡ withWires u (set (u .wires) i x) → Mid start goal (i + 1) v
 mid-more start goal i u m h x e v p =
     rw p
-    (record
-      { same = ap (λ (y : Table). withWires y (set (u .wires) i x)) (m .same); long = length-set (u .wires) i x ∙ m .long
-      ; half = half-more (start .wires) (u .wires) goal i (m .half) (omega (arith, m .long)) x e })
+    (record {
+      same = ap (λ (y : Table). withWires y (set (u .wires) i x)) (m .same);
+      long = length-set (u .wires) i x ∙ m .long;
+      half = half-more (start .wires) (u .wires) goal i (m .half) (omega (arith, m .long)) x e;
+    })
 
 module _ (t : Table) (me place gap : ℕ) (k : Takes t me place gap) (long : length (t .wires) ≡ wireLimit) (d : Done) (far : d .sent ≤ length (d .out)) where
   -- what the wires will be
@@ -152,10 +150,12 @@ module _ (t : Table) (me place gap : ℕ) (k : Takes t me place gap) (long : len
 
   pub mid-start : (q : List Queued) (n : ℕ) → Mid (begun t me d q n) (target (messagesOf t) place gap (take (d .sent) (d .out))) place (begun t me d q n)
   mid-start q n =
-      record
-        { same = refl; long = long
-        ; half = half-start (t .wires) (target (messagesOf t) place gap (take (d .sent) (d .out))) place
-            (λ j h. target-low (messagesOf t) (take (d .sent) (d .out)) place gap fits j h ∙ here j (omega (arith, k .low))) }
+      record {
+        same = refl;
+        long = long;
+        half = half-start (t .wires) (target (messagesOf t) place gap (take (d .sent) (d .out))) place
+            (λ j h. target-low (messagesOf t) (take (d .sent) (d .out)) place gap fits j h ∙ here j (omega (arith, k .low)));
+      }
 
   module _ (i : ℕ) where
     pub goal-moved : (ws : List Wire) → Half (t .wires) (target (messagesOf t) place gap (take (d .sent) (d .out))) i ws → place ≤ i → i < t .count - gap
@@ -194,8 +194,8 @@ module _ (t : Table) (me place gap : ℕ) (k : Takes t me place gap) (long : len
       let queue : q ≡ padded queueLimit noQueued (w .queue) = short ∙ ap (λ (x : Done). take queueLimit (x .queue)) e ∙ padded-short queueLimit placeLimit noQueued (w .queue) few (omega arith) in
       let rooms : set (t .rooms) me (d .room) ≡ set (t .rooms) (w .me) (w .room) = ap (λ (x : Done). set (t .rooms) me (x .room)) e ∙ ap (λ (x : ℕ). set (t .rooms) x (w .room)) (sym own) in
       let wires : u .wires ≡ padded wireLimit noWire (without t place gap ++ w .sent)
-            = laid-out q _ i u m room h l ∙ ap (λ (s : List Wire). padded wireLimit noWire (without t place gap ++ s)) out in
+      = laid-out q _ i u m room h l ∙ ap (λ (s : List Wire). padded wireLimit noWire (without t place gap ++ s)) out in
       let count : t .count - gap + d .sent ≡ length (without t place gap ++ w .sent)
-            = omega (arith, length-spliced (messagesOf t) (w .sent) place gap fits, all, ap (λ (x : Done). x .sent) e) in
+      = omega (arith, length-spliced (messagesOf t) (w .sent) place gap fits, all, ap (λ (x : Done). x .sent) e) in
       ap (answer 0)
       (m .same ∙ (λ j. record { n = t .n; rooms = rooms j; queue = queue j; queued = e j .queued; wires = wires j; count = count j }))

@@ -10,7 +10,7 @@ use base.Fml.{Fml}
 use denote.Laws.{Is}
 use denote.Shadow.{shadow}
 use denote.Array.{each}
-use Rattle.base.specs.Arrays.{padded, padded-fits}
+use Rattle.base.specs.Arrays.{padded-fits}
 use Rattle.room.specs.declared.Room.{Room}
 use Rattle.room.specs.Limits.{roomLimit}
 use Rattle.room.specs.Record.{noRoom}
@@ -53,10 +53,13 @@ each-known into f P z k (x ∷ xs) (u ∷ us) s (suc i) h = each-known into f P 
 pub shaped : (t : Table) {vs : List Val} → Is tables.the-row t vs → Shaped t
 shaped t g =
     let long = rooms-long t g in
-    record
-      { rooms = long; queue = queue-long t g; wires = wires-long t g
-      ; entries = λ c h. each-known _ _ (λ (r : Room). length (r .entries) ≡ roomLimit) noRoom
-          (λ v us s. simp length-map at (s .1 .1 .1 .1 .1 .1 .1 .1 .1 .1 .0 .1 .0 .1)) (t .rooms) _ (g .1 .1 .1 .0 .1 .1) c (omega arith) }
+    record {
+      rooms = long;
+      queue = queue-long t g;
+      wires = wires-long t g;
+      entries = λ c h. each-known _ _ (λ (r : Room). length (r .entries) ≡ roomLimit) noRoom
+          (λ v us s. simp length-map at (s .1 .1 .1 .1 .1 .1 .1 .1 .1 .1 .0 .1 .0 .1)) (t .rooms) _ (g .1 .1 .1 .0 .1 .1) c (omega arith);
+    }
 
 -- the outbox of what a plan has done
 pub plan-out-long : (p : Plan) {vs : List Val} → Is plans.the-row p vs → length (p .done .out) ≡ outLimit

@@ -1,15 +1,15 @@
 -- WORN, FULL or done: what is given back for a plan is what the rules give.
-use mathlib.Core.Path.{_≡_, refl, sym, _∙_, ap}
+use mathlib.Core.Path.{_≡_, sym, _∙_, ap}
 use mathlib.Core.Logic.{_≢_, _⊎_, inl, inr}
-use mathlib.Core.Bool.{Bool, true, false}
-use mathlib.Core.List.{List, _++_, append-nil}
-use Prim.Native.Nat.{ℕ, suc, _+_, _-_, _≤_, _<_}
+use mathlib.Core.Bool.{true, false}
+use mathlib.Core.List.{_++_, append-nil}
+use Prim.Native.Nat.{ℕ, _+_, _-_, _≤_, _<_}
 use native.Mathlib.Numerals.{add-one}
 use native.Mathlib.Omega.{arith}
 use lib.ListN.{length, take, drop, drop-of-length-le}
 use lib.Seq.{length-take-le, take-all}
 use borrow.Author.Tests.{lt-ltb, le-ltb, ne-eqb}
-use Rattle.base.specs.Choice.{if_then_else_, split}
+use Rattle.base.specs.Choice.{split}
 use Rattle.base.specs.Sums.{same?, below?}
 use Rattle.base.specs.Lists.{remove, remove-split}
 use Rattle.table.specs.declared.Table.{Table}
@@ -113,7 +113,7 @@ module _ (t : Table) (e : Event) (p : Plan) (s : Plans t e p) (long : length (t 
           let m = s .made z in
           split (p .done .worn)
           (λ f. let n : k ≡ 10 = h ∙ sym (ending-worn (t .count) p z f) in
-            inl (rw n (outcome-worn t (p .me) (p .place) (p .gap) (m .takes) long (p .done) (m .work) (m .done) f ∙ m .step), λ q. omega arith))
+          inl (rw n (outcome-worn t (p .me) (p .place) (p .gap) (m .takes) long (p .done) (m .work) (m .done) f ∙ m .step), λ q. omega arith))
           (λ f. over m z f (below? (wireLimit - (t .count - p .gap)) (p .done .sent)))
 
   pub step-refused : (k ≡ 0 → ⊥) → answer k t ≡ stepOf t e

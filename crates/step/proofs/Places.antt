@@ -1,17 +1,14 @@
 -- A room that asks, and the origin of a REQUEST under way, are not in the queue: there is a place for them.
-use mathlib.Core.Path.{_≡_, refl, sym, _∙_, ap}
-use mathlib.Core.Bool.{Bool, true, false}
+use mathlib.Core.Path.{_≡_, refl, _∙_, ap}
+use mathlib.Core.Bool.{Bool, true}
 use Prim.Native.Nat.{ℕ, _+_, _≤_, _<_}
 use native.Mathlib.Omega.{arith}
 use lib.Dec.{eqb, ltb}
-use lib.ListN.{length, getD}
+use lib.ListN.{length}
 use borrow.Author.Tests.{eq-eqb}
-use Rattle.base.specs.Choice.{if_then_else_}
 use Rattle.base.specs.Sums.{one}
 use Rattle.base.specs.Lists.{count, Mem, mem-at, mem-total}
 use Rattle.table.specs.declared.Table.{Table}
-use Rattle.table.specs.declared.Wire.{Wire}
-use Rattle.table.specs.declared.Queued.{Queued}
 use Rattle.table.specs.declared.Message.{Message}
 use Rattle.table.specs.declared.Message.the-variants as msg
 use Rattle.table.specs.declared.Found.the-variants as found
@@ -20,7 +17,6 @@ use Rattle.table.specs.Tables.{noWire, roomAt, queueOf, messagesOf}
 use Rattle.table.specs.Oldest.{oldestOf}
 use Rattle.table.specs.Formed.{due, isNamedIn, names, messageFine, wellFormed}
 use Rattle.facts.specs.Shapes.{Shaped}
-use Rattle.facts.specs.Moments.{Formed}
 use Rattle.facts.specs.Whole.{WellFormed, facts-of}
 use Rattle.facts.specs.Names.{queue-bound, queue-room, named-once}
 use Rattle.facts.specs.Search.{oldest-low, oldest-there}

@@ -1,16 +1,15 @@
 -- No event makes the queue longer than by one, and the room that acts stays the same.
-use mathlib.Core.Path.{_≡_, refl, sym, _∙_, ap}
+use mathlib.Core.Path.{_≡_, refl, _∙_, ap}
 use mathlib.Core.Bool.{Bool, true, false, not, _&&_}
-use mathlib.Core.List.{List, [], _∷_, _++_}
-use Prim.Native.Nat.{ℕ, suc, _+_, _≤_, _<_}
+use mathlib.Core.List.{List, [], _∷_}
+use Prim.Native.Nat.{ℕ, suc, _+_, _≤_}
 use native.Mathlib.Omega.{arith}
 use lib.Dec.{eqb}
 use lib.ListN.{length, length-append}
-use Rattle.base.specs.Choice.{if_then_else_, by-test, split}
+use Rattle.base.specs.Choice.{if_then_else_, by-test}
 use Rattle.base.specs.Sums.{one}
 use Rattle.modes.specs.Codes.{W}
 use Rattle.modes.specs.Modes.{agrees, canLend}
-use Rattle.room.specs.declared.Room.{Room}
 use Rattle.room.specs.declared.Send.{Send}
 use Rattle.room.specs.declared.Send.the-variants as out
 use Rattle.room.specs.Owned.{owned, hasNoEntries}
@@ -114,8 +113,8 @@ request-grows w o m idle =
     by-test (Grows (here w + 1) w) (w .room .token) (serve (join w o m)) _
     (λ p. more (here (join w o m)) (here w + 1) w _ (joins w o m .queue) (after (here (join w o m)) w (join w o m) _ (joins w o m .me) (serve-grows (join w o m))))
     (λ p. by-test (Grows (here w + 1) w) (idle && not (eqb o (w .me)) && canLend (owned (w .room)) m) (settle (lend w o m)) _
-      (λ q. more (here w) (here w + 1) w _ (omega arith) (after (here w) w (lend w o m) _ refl (settle-grows (lend w o m))))
-      (λ q. record { me = refl; queue = omega arith }))
+    (λ q. more (here w) (here w + 1) w _ (omega arith) (after (here w) w (lend w o m) _ refl (settle-grows (lend w o m))))
+    (λ q. record { me = refl; queue = omega arith }))
 
 -- a message that is a REQUEST
 unfoldable pub isRequest : Message → Bool

@@ -1,14 +1,12 @@
 -- The numbers in their order: for each kind of event a law for each refusal, and one for the step that is made.
-use mathlib.Core.Path.{_≡_, refl, sym, _∙_, ap}
-use mathlib.Core.Bool.{Bool, true, false, not, _&&_, _||_, and-false, or-true}
+use mathlib.Core.Path.{_≡_, refl, sym, _∙_}
+use mathlib.Core.Bool.{true, false, _||_, and-false}
 use Prim.Native.Nat.{ℕ, _≤_, _<_}
 use native.Mathlib.Omega.{arith}
-use lib.Dec.{eqb, leb, ltb}
+use lib.Dec.{eqb, ltb}
 use borrow.Author.Tests.{le-leb, lt-leb, eq-eqb, ne-eqb}
-use Rattle.base.specs.Choice.{if_then_else_}
 use Rattle.base.specs.Below.{allBelow, all-at}
 use Rattle.table.specs.declared.Table.{Table}
-use Rattle.table.specs.declared.Answer.{Answer}
 use Rattle.table.specs.declared.Message.{Message}
 use Rattle.table.specs.declared.Found.{Found}
 use Rattle.table.specs.declared.Found.the-variants as found

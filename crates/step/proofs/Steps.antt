@@ -1,10 +1,9 @@
 -- From what a room has done to the plan of the step: each event on a well formed table.
-use mathlib.Core.Path.{_≡_, refl, sym, _∙_, ap}
+use mathlib.Core.Path.{_≡_, refl, _∙_, ap}
 use mathlib.Core.Bool.{true}
 use mathlib.Core.List.{List}
-use Prim.Native.Nat.{ℕ, _+_, _≤_, _<_}
+use Prim.Native.Nat.{ℕ, _≤_, _<_}
 use native.Mathlib.Omega.{arith}
-use lib.ListN.{length}
 use lib.Seq.{length-take-le}
 use Rattle.base.specs.Lists.{remove}
 use Rattle.room.specs.Limits.{roomLimit}
@@ -27,8 +26,8 @@ use Rattle.act.specs.Desk.{outLimit}
 use Rattle.act.specs.declared.Done.{Done}
 use Rattle.act.specs.Done.{doneOf}
 use Rattle.step.specs.declared.plan.Plan.{Plan}
-use Rattle.step.specs.Writes.{without, Takes}
-use Rattle.step.specs.Plans.{refusedPlan, Made, Plans}
+use Rattle.step.specs.Writes.{Takes}
+use Rattle.step.specs.Plans.{refusedPlan, Plans}
 use Rattle.step.proofs.Outcomes.{without-none, without-one}
 use Rattle.step.proofs.Queues.{Grows, ask-grows, upgrade-grows, hand-back-grows, receive-grows}
 use Rattle.step.proofs.Places.{queue-fits, asks-place, receive-place}
@@ -55,11 +54,18 @@ module _ (t : Table) (s : Shaped t) (f : wellFormed t ≡ true) where
     plans : (w : Work) (most : ℕ) → Grows most (workAt t x) w → most ≤ queueLimit → d ≡ doneOf w → outcome t (messagesOf t) w ≡ stepOf t e
         → Plans t e (record { «number» = 0; me = x; place = t .count; gap = 0; done = d })
     plans w most g k p q =
-        record
-          { refused = λ z. absurd (z refl)
-          ; made = λ z. record
-              { work = w; me = g .me; few = omega (arith, g .queue); done = p; sent = sent; takes = takes-none x low
-              ; step = ap (λ (l : List Wire). outcome t l w) (without-none t (s .wires) (facts .count)) ∙ q } }
+        record {
+          refused = λ z. absurd (z refl);
+          made = λ z. record {
+            work = w;
+            me = g .me;
+            few = omega (arith, g .queue);
+            done = p;
+            sent = sent;
+            takes = takes-none x low;
+            step = ap (λ (l : List Wire). outcome t l w) (without-none t (s .wires) (facts .count)) ∙ q;
+          };
+        }
 
     pub ask-plans : (m : ℕ) → roomAt t x .wanted ≡ 0 → roomAt t x .held ≡ 0 → d ≡ doneOf (ask (workAt t x) m)
         → outcome t (messagesOf t) (ask (workAt t x) m) ≡ stepOf t e → Plans t e (record { «number» = 0; me = x; place = t .count; gap = 0; done = d })
@@ -79,12 +85,18 @@ module _ (t : Table) (s : Shaped t) (f : wellFormed t ≡ true) where
       → Plans t e (record { «number» = 0; me = b; place = k; gap = 1; done = d })
   deliver-plans e a b low d sent k m o p q =
       let g = receive-grows (workAt t b) a m in
-      record
-        { refused = λ z. absurd (z refl)
-        ; made = λ z. record
-            { work = receive (workAt t b) a m; me = g .me; few = omega (arith, g .queue, receive-place t s f a b k m o); done = p; sent = sent
-            ; takes = takes-one a b k m low o
-            ; step = ap (λ (l : List Wire). outcome t l (receive (workAt t b) a m)) (without-one t (s .wires) (facts .count) k) ∙ q } }
+      record {
+        refused = λ z. absurd (z refl);
+        made = λ z. record {
+          work = receive (workAt t b) a m;
+          me = g .me;
+          few = omega (arith, g .queue, receive-place t s f a b k m o);
+          done = p;
+          sent = sent;
+          takes = takes-one a b k m low o;
+          step = ap (λ (l : List Wire). outcome t l (receive (workAt t b) a m)) (without-one t (s .wires) (facts .count) k) ∙ q;
+        };
+      }
 
 -- a refusal that the rules give is a plan
 pub refused-plans : (t : Table) (e : Event) (k : ℕ) → (k ≡ 0 → ⊥) → answer k t ≡ stepOf t e → (p : Plan) → p ≡ refusedPlan k → Plans t e p

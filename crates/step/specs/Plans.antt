@@ -1,8 +1,7 @@
 -- A step as it is planned: a refusal, or what a room has done and which message it took.
 use Prim.Native.Nat.{ℕ, _-_, _≤_}
 use mathlib.Core.Path.{_≡_}
-use mathlib.Core.Bool.{Bool, false, not}
-use mathlib.Core.List.{[]}
+use mathlib.Core.Bool.{false, not}
 use lib.ListN.{length, replicate}
 use lib.Dec.{ltb, eqb}
 use Rattle.base.specs.Choice.{if_then_else_}

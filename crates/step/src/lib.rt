@@ -10,9 +10,9 @@ mod plan;
 mod write;
 
 use act::Start;
+use plan::Plan;
 use plan::ending;
 use plan::refused;
-use plan::Plan;
 use rules::Event;
 use table::Answer;
 use table::Found;
@@ -21,8 +21,11 @@ use write::written;
 
 // The kinds of events.
 pub const ASK: u8 = 0;
+
 pub const UPGRADE: u8 = 1;
+
 pub const HANDBACK: u8 = 2;
+
 pub const DELIVER: u8 = 3;
 
 // An ASK is refused from this many messages on the wires,
@@ -64,8 +67,22 @@ fn ask(t: Table, e: Event) -> Plan
         i += 1;
     }
     let queue = t.queue;
-    let done = act::ask(Start { me: e.room, room: room, queue: queue, queued: t.queued }, mode);
-    Plan { number: 0, me: e.room, place: t.count, gap: 0, done: done }
+    let done = act::ask(
+        Start {
+            me: e.room,
+            room: room,
+            queue: queue,
+            queued: t.queued,
+        },
+        mode,
+    );
+    Plan {
+        number: 0,
+        me: e.room,
+        place: t.count,
+        gap: 0,
+        done: done,
+    }
 }
 
 // UPGRADE.
@@ -85,8 +102,19 @@ fn upgrade(t: Table, e: Event) -> Plan
         return refused(7);
     }
     let queue = t.queue;
-    let done = act::upgrade(Start { me: e.room, room: room, queue: queue, queued: t.queued });
-    Plan { number: 0, me: e.room, place: t.count, gap: 0, done: done }
+    let done = act::upgrade(Start {
+        me: e.room,
+        room: room,
+        queue: queue,
+        queued: t.queued,
+    });
+    Plan {
+        number: 0,
+        me: e.room,
+        place: t.count,
+        gap: 0,
+        done: done,
+    }
 }
 
 // HANDBACK.
@@ -106,8 +134,19 @@ fn hand_back(t: Table, e: Event) -> Plan
         return refused(7);
     }
     let queue = t.queue;
-    let done = act::hand_back(Start { me: e.room, room: room, queue: queue, queued: t.queued });
-    Plan { number: 0, me: e.room, place: t.count, gap: 0, done: done }
+    let done = act::hand_back(Start {
+        me: e.room,
+        room: room,
+        queue: queue,
+        queued: t.queued,
+    });
+    Plan {
+        number: 0,
+        me: e.room,
+        place: t.count,
+        gap: 0,
+        done: done,
+    }
 }
 
 // DELIVER.
@@ -127,8 +166,23 @@ fn deliver(t: Table, e: Event) -> Plan
     let b = e.other as usize;
     let room = t.rooms[b];
     let queue = t.queue;
-    let done = act::receive(Start { me: e.other, room: room, queue: queue, queued: t.queued }, e.room, message);
-    Plan { number: 0, me: e.other, place: place, gap: 1, done: done }
+    let done = act::receive(
+        Start {
+            me: e.other,
+            room: room,
+            queue: queue,
+            queued: t.queued,
+        },
+        e.room,
+        message,
+    );
+    Plan {
+        number: 0,
+        me: e.other,
+        place: place,
+        gap: 1,
+        done: done,
+    }
 }
 
 // What the event asks for, on the table as it came.
@@ -156,7 +210,10 @@ pub fn step(t: Table, e: Event) -> Answer
     let count = t.count;
     let number = ending(count, p);
     if number != 0 {
-        return Answer { number: number, table: t };
+        return Answer {
+            number: number,
+            table: t,
+        };
     }
     written(t, p)
 }

@@ -3,15 +3,14 @@ ghost use mathlib.Core.Path.{_≡_};
 ghost use Prim.Native.Nat.{_≤_};
 ghost use Rattle.table.specs.Limits.{wireLimit};
 ghost use Rattle.step.specs.Plans.{refusedPlan, endingOf};
-
 use act::Done;
 use act::OUTBOX;
 use act::PLACES;
 use room::Room;
 use table::Message;
 use table::Queued;
-use table::Wire;
 use table::WIRES;
+use table::Wire;
 
 // A refusal's number; or 0 and what room me has done, with gap many messages at place taken out.
 pub struct Plan {
@@ -26,7 +25,11 @@ pub struct Plan {
 pub fn refused(number: u8) -> Plan
     ensures { λ p. ⌜ p ≡ refusedPlan «number» ⌝ }
 {
-    let nothing = Wire { from: 0, to: 0, message: Message::Nothing };
+    let nothing = Wire {
+        from: 0,
+        to: 0,
+        message: Message::Nothing,
+    };
     let room = Room::blank();
     let done = Done {
         room: room,
@@ -36,7 +39,13 @@ pub fn refused(number: u8) -> Plan
         sent: 0,
         worn: false,
     };
-    Plan { number: number, me: 0, place: 0, gap: 0, done: done }
+    Plan {
+        number: number,
+        me: 0,
+        place: 0,
+        gap: 0,
+        done: done,
+    }
 }
 
 // The number that is given back for a plan on a table with so many messages: its own, WORN, FULL or 0.

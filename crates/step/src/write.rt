@@ -5,15 +5,14 @@ ghost use lib.ListN.{take};
 ghost use Rattle.table.specs.Limits.{queueLimit, wireLimit};
 ghost use Rattle.act.specs.Desk.{outLimit};
 ghost use Rattle.step.specs.Writes.{Takes, Writes};
-
-use act::PLACES;
 use crate::plan::Plan;
+use act::PLACES;
 use table::Answer;
 use table::Message;
+use table::QUEUE;
 use table::Queued;
 use table::Table;
 use table::Wire;
-use table::QUEUE;
 
 // The queue without the place that only a desk has.
 fn shorter(queue: [Queued; PLACES]) -> [Queued; QUEUE]
@@ -65,9 +64,16 @@ pub fn written(t: Table, p: Plan) -> Answer
             let w = d.out[i - kept];
             u.wires[i] = w;
         } else {
-            u.wires[i] = Wire { from: 0, to: 0, message: Message::Nothing };
+            u.wires[i] = Wire {
+                from: 0,
+                to: 0,
+                message: Message::Nothing,
+            };
         }
         i += 1;
     }
-    Answer { number: 0, table: u }
+    Answer {
+        number: 0,
+        table: u,
+    }
 }

@@ -1,6 +1,6 @@
 -- "The table": its rooms, its queue and its messages, and the fresh table.
 use Prim.Native.Nat.{ℕ}
-use mathlib.Core.Bool.{Bool, true, false, _&&_}
+use mathlib.Core.Bool.{true, _&&_}
 use mathlib.Core.List.{List}
 use lib.ListN.{getD, set, replicate, take}
 use lib.Dec.{leb}
@@ -42,16 +42,26 @@ messagesOf t = take (t .count) (t .wires)
 -- "Fresh table: room 0 has the token, all toward 0, the rest none or zero."
 unfoldable pub freshTable : ℕ → Table
 freshTable n =
-    record
-      { n = n; rooms = set (replicate roomLimit blankRoom) 0 (withToken blankRoom true 0); queue = replicate queueLimit noQueued; queued = 0
-      ; wires = replicate wireLimit noWire; count = 0 }
+    record {
+      n = n;
+      rooms = set (replicate roomLimit blankRoom) 0 (withToken blankRoom true 0);
+      queue = replicate queueLimit noQueued;
+      queued = 0;
+      wires = replicate wireLimit noWire;
+      count = 0;
+    }
 
 -- a table of no rooms, with nothing in it: what a refused fresh hands back. It is not well formed.
 unfoldable pub blankTable : Table
 blankTable =
-    record
-      { n = 0; rooms = replicate roomLimit blankRoom; queue = replicate queueLimit noQueued; queued = 0; wires = replicate wireLimit noWire
-      ; count = 0 }
+    record {
+      n = 0;
+      rooms = replicate roomLimit blankRoom;
+      queue = replicate queueLimit noQueued;
+      queued = 0;
+      wires = replicate wireLimit noWire;
+      count = 0;
+    }
 
 -- a number given back, and the table after it
 abbrev pub answer : ℕ → Table → Answer

@@ -2,9 +2,8 @@
 ghost use mathlib.Core.Path.{_≡_};
 ghost use Rattle.table.specs.Tables.{freshOf};
 ghost use Rattle.table.specs.Oldest.{oldestOf};
-
-use room::Room;
 use room::ROOMS;
+use room::Room;
 
 // The places of the queue.
 pub const QUEUE: usize = 16;
@@ -59,15 +58,39 @@ pub fn fresh(n: u8) -> Answer
 {
     let blank = Room::blank();
     let mut rooms = [blank; ROOMS];
-    let nothing = Wire { from: 0, to: 0, message: Message::Nothing };
+    let nothing = Wire {
+        from: 0,
+        to: 0,
+        message: Message::Nothing,
+    };
     let wires = [nothing; WIRES];
     let queue = [Queued { room: 0, mode: 0 }; QUEUE];
     match n {
         1..=16 => {
             rooms[0].token = true;
-            Answer { number: 0, table: Table { n: n, rooms: rooms, queue: queue, queued: 0, wires: wires, count: 0 } }
+            Answer {
+                number: 0,
+                table: Table {
+                    n: n,
+                    rooms: rooms,
+                    queue: queue,
+                    queued: 0,
+                    wires: wires,
+                    count: 0,
+                },
+            }
         }
-        _ => Answer { number: 3, table: Table { n: 0, rooms: rooms, queue: queue, queued: 0, wires: wires, count: 0 } },
+        _ => Answer {
+            number: 3,
+            table: Table {
+                n: 0,
+                rooms: rooms,
+                queue: queue,
+                queued: 0,
+                wires: wires,
+                count: 0,
+            },
+        },
     }
 }
 
@@ -85,7 +108,10 @@ pub fn oldest(t: Table, a: u8, b: u8) -> Found
         if w.from == a {
             if w.to == b {
                 let message = w.message;
-                return Found::At { place: i, message: message };
+                return Found::At {
+                    place: i,
+                    message: message,
+                };
             }
         }
         i += 1;

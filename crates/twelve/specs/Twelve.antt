@@ -1,22 +1,20 @@
 -- "Twelve to be proved": a single table with a single claim.
 use Prim.Native.Nat.{ℕ}
 use mathlib.Core.Path.{_≡_, refl}
-use mathlib.Core.Bool.{Bool, true, false, not, _&&_}
+use mathlib.Core.Bool.{Bool, true, not, _&&_}
 use mathlib.Core.List.{List, [], _∷_}
 use lib.ListN.{set, replicate}
 use lib.Dec.{eqb}
-use Rattle.base.specs.Choice.{if_then_else_}
 use Rattle.base.specs.Sums.{sum}
 use Rattle.base.specs.Lists.{total, remove}
 use Rattle.base.specs.Arrays.{padded}
 use Rattle.modes.specs.Codes.{none, IR, R, U, IW, W}
 use Rattle.modes.specs.Modes.{agrees, isStronger, canLend}
 use Rattle.room.specs.Limits.{roomLimit}
-use Rattle.room.specs.Record.{blankRoom, entryOf, entryAt, withModes, withToken, setEntry}
+use Rattle.room.specs.Record.{blankRoom, entryOf, entryAt, withToken, setEntry}
 use Rattle.room.specs.Owned.{larger, strongest, owned, hasNoEntries}
 use Rattle.room.specs.Rules.{nextLink, isWorn, lentTo, lent, left, remaining, passedTo, passed, credited, settled, leaving, granted, lifted, tokenedBy, tokened, reduced}
 use Rattle.table.specs.declared.Table.{Table}
-use Rattle.table.specs.declared.Answer.{Answer}
 use Rattle.table.specs.declared.Message.the-variants as msg
 use Rattle.table.specs.Limits.{queueLimit, wireLimit}
 use Rattle.table.specs.Tables.{noWire, noQueued, roomAt, freshTable, blankTable, freshOf}
@@ -53,10 +51,14 @@ modesAre t x h w = eqb (roomAt t x .held) h && eqb (roomAt t x .wanted) w
 -- room 0 has the token and an entry for room 1, IR with link 7; a REDUCE with link 6 is on its way from room 1
 unfoldable pub lentTable : Table
 lentTable =
-    record
-      { n = 2; rooms = set (replicate roomLimit blankRoom) 0 (setEntry (withToken blankRoom true 0) 1 (record { mode = IR; link = 7 }))
-      ; queue = replicate queueLimit noQueued; queued = 0
-      ; wires = set (replicate wireLimit noWire) 0 (record { «from» = 1; to = 0; message = msg.Reduce 6 none }); count = 1 }
+    record {
+      n = 2;
+      rooms = set (replicate roomLimit blankRoom) 0 (setEntry (withToken blankRoom true 0) 1 (record { mode = IR; link = 7 }));
+      queue = replicate queueLimit noQueued;
+      queued = 0;
+      wires = set (replicate wireLimit noWire) 0 (record { «from» = 1; to = 0; message = msg.Reduce 6 none });
+      count = 1;
+    }
 
 -- room 0 has the token and holds U; room 1 has been lent IR
 unfoldable pub lending : Table
@@ -81,7 +83,7 @@ twelve =
     ∷ eqb (stepOf (runs (freshTable 1) (asks 0 R ∷ [])) (upgrades 0) .«number») 7
     -- an entry IR with link 7 stays on REDUCE link 6
     ∷ (eqb (stepOf lentTable (delivers 1 0) .«number») 0 && eqb (entryAt (roomAt (stepOf lentTable (delivers 1 0) .table) 0) 1 .mode) IR
-        && eqb (entryAt (roomAt (stepOf lentTable (delivers 1 0) .table) 0) 1 .link) 7)
+    && eqb (entryAt (roomAt (stepOf lentTable (delivers 1 0) .table) 0) 1 .link) 7)
     -- a token room that holds U with one entry, IR, waits on UPGRADE and holds W once that entry's REDUCE is delivered
     ∷ (modesAre (runs lending (upgrades 0 ∷ [])) 0 U W && modesAre (runs lending (upgrades 0 ∷ handsBack 1 ∷ delivers 1 0 ∷ [])) 0 W none)
     ∷ []

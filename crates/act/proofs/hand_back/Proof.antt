@@ -1,27 +1,18 @@
 use Rattle.rules.specs.Rules as rules
-use Rattle.act.proofs.Laying.{whole, held}
+use Rattle.act.proofs.Laying.{whole}
 use borrow.Author.Needs.{needs}
 use Rattle.act.proofs.hand_back.Statement.{statement}
 use Rattle.act.proofs.hand_back.Tie as tie
-use Rattle.act.proofs.hand_back.Reads as reads
-use Rattle.act.proofs.hand_back.Lts as lts
-use Rattle.act.proofs.acts.hand_back.Reads as hand-back-reads
-use Rattle.act.proofs.lay_out.Reads as lay-out-reads
-use Rattle.act.proofs.tidy.Reads as tidy-reads
 
--- src/lib.rt:91:26
 lay-out-requires : tie.Need-lay-out-requires
 lay-out-requires c κs = search needs
 
--- src/lib.rt:91:10
 hand-back-requires : tie.Need-hand-back-requires
 hand-back-requires c κs = search needs
 
--- src/lib.rt:91:5
 tidy-requires : tie.Need-tidy-requires
 tidy-requires c κs = search needs
 
--- src/lib.rt:88:1
 returns : tie.Need-returns
 returns c = whole (c .before .before .before .args .s) _ _ rules.handBack (c .before .before .lay-out .ensures) (c .before .hand-back .ensures) _ (c .tidy .ensures)
 

@@ -9,8 +9,6 @@ use Rattle.act.proofs.Known.{start-long}
 use Rattle.act.proofs.Laying.{lay-more, lays-part, lays-whole}
 use Rattle.act.proofs.lay_out.Statement.{statement}
 use Rattle.act.proofs.lay_out.Tie as tie
-use Rattle.act.proofs.lay_out.Reads as reads
-use Rattle.act.proofs.lay_out.Lts as lts
 
 abbrev Inv-loop : tie.InvT-loop
 Inv-loop s nothing queue₀ i₀ queue i = (i ≤ queueLimit) × (length queue ≡ placeLimit) × (take i queue ≡ take i (s .queue))
@@ -18,53 +16,43 @@ Inv-loop s nothing queue₀ i₀ queue i = (i ≤ queueLimit) × (length queue �
 abbrev μ-loop : tie.MeasureT-loop
 μ-loop s nothing queue₀ i₀ queue i = queueLimit - i
 
--- src/lib.rt:44:5
 loop-holds : tie.Need-loop-holds Inv-loop μ-loop
 loop-holds c = (search needs, refl, refl)
 
--- src/lib.rt:45:17
 mul-q : tie.Need-mul-q Inv-loop μ-loop
 mul-q c = search needs
 
--- src/lib.rt:45:17
 element-copy-out-q : tie.Need-element-copy-out-q Inv-loop μ-loop
 element-copy-out-q c = search needs
 
--- src/lib.rt:46:9
 mul-queue : tie.Need-mul-queue Inv-loop μ-loop
 mul-queue c = search needs
 
--- src/lib.rt:46:9
 array-set-from-queue : tie.Need-array-set-from-queue Inv-loop μ-loop
 array-set-from-queue c = search needs
 
--- src/lib.rt:47:9
 add-i : tie.Need-add-i Inv-loop μ-loop
 add-i c = search needs
 
--- src/lib.rt:44:5
 loop-less : tie.Need-loop-less Inv-loop μ-loop
 loop-less c = search needs
 
--- src/lib.rt:44:5
 loop-again : tie.Need-loop-again Inv-loop μ-loop
-loop-again c = 
+loop-again c =
     let s = c .before .before .before in
     let k = c .before .before .loop in
     let long = start-long (s .args .t1) (s .good .0) in
     (omega arith, simp length-set (k .inv .1), lay-more (k .queue) (s .args .t1 .queue) (k .i) (omega arith) (omega arith) (k .inv .2))
 
--- src/lib.rt:38:1
 returns : tie.Need-returns Inv-loop μ-loop
-returns c = 
+returns c =
     let s = c .before .before .before .before in
     let k = c .before .before .before .loop in
     let e : k .i ≡ queueLimit = omega arith in
     lays-part (s .args .t1) (k .queue) (start-long (s .args .t1) (s .good .0)) (rw e at (k .inv .2)) (c .if1 .taken)
 
--- src/lib.rt:38:1
 returns-2 : tie.Need-returns-2 Inv-loop μ-loop
-returns-2 c = 
+returns-2 c =
     let s = c .before .before .before .before in
     let k = c .before .before .before .loop in
     let e : k .i ≡ queueLimit = omega arith in

@@ -12,8 +12,6 @@ use Rattle.act.proofs.Known.{queue-long, out-long}
 use Rattle.act.proofs.Laying.{tidy-none, tidy-more, tidy-is}
 use Rattle.act.proofs.tidy.Statement.{statement}
 use Rattle.act.proofs.tidy.Tie as tie
-use Rattle.act.proofs.tidy.Reads as reads
-use Rattle.act.proofs.tidy.Lts as lts
 
 abbrev Inv-loop : tie.InvT-loop
 Inv-loop d first last queue₀ i₀ queue i = (first ≤ i) × (i ≤ last) × (length queue ≡ placeLimit) × (queue ≡ padded placeLimit noQueued (slice first i (d .queue)))
@@ -21,56 +19,46 @@ Inv-loop d first last queue₀ i₀ queue i = (first ≤ i) × (i ≤ last) × (
 abbrev μ-loop : tie.MeasureT-loop
 μ-loop d first last queue₀ i₀ queue i = last - i
 
--- src/lib.rt:63:5
 loop-holds : tie.Need-loop-holds Inv-loop μ-loop
 loop-holds c = (search needs, search needs, refl, tidy-none (c .args .t1 .queue) (c .args .t1 .first))
 
--- src/lib.rt:64:17
 mul-q : tie.Need-mul-q Inv-loop μ-loop
 mul-q c = search needs
 
--- src/lib.rt:64:17
 element-copy-out-q : tie.Need-element-copy-out-q Inv-loop μ-loop
 element-copy-out-q c = search needs
 
--- src/lib.rt:65:15
 sub-queue : tie.Need-sub-queue Inv-loop μ-loop
 sub-queue c = search needs
 
--- src/lib.rt:65:9
 mul-queue : tie.Need-mul-queue Inv-loop μ-loop
 mul-queue c = search needs
 
--- src/lib.rt:65:9
 array-set-from-queue : tie.Need-array-set-from-queue Inv-loop μ-loop
 array-set-from-queue c = search needs
 
--- src/lib.rt:66:9
 add-i : tie.Need-add-i Inv-loop μ-loop
 add-i c = search needs
 
--- src/lib.rt:63:5
 loop-less : tie.Need-loop-less Inv-loop μ-loop
 loop-less c = search needs
 
--- src/lib.rt:63:5
 loop-again : tie.Need-loop-again Inv-loop μ-loop
-loop-again c = 
+loop-again c =
     let s = c .before .before .before in
     let k = c .before .before .loop in
-    let long = queue-long (s .args .t1) (s .good .0) in
-    (
-      omega arith, omega arith, simp length-set (k .inv .2),
+    let long = queue-long (s .args .t1) (s .good .0) in (
+      omega arith,
+      omega arith,
+      simp length-set (k .inv .2),
       tidy-more (k .queue) (s .args .t1 .queue) (s .args .t1 .first) (k .i) (omega arith) (omega arith) (omega arith) (k .inv .3),
     )
 
--- src/lib.rt:70:46
 sub-t20 : tie.Need-sub-t20 Inv-loop μ-loop
 sub-t20 c = search needs
 
--- src/lib.rt:55:1
 returns : tie.Need-returns Inv-loop μ-loop
-returns c = 
+returns c =
     let s = c .before .before .before .before in
     let k = c .before .before .before .loop in
     let long = queue-long (s .args .t1) (s .good .0) in

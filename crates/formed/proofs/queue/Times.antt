@@ -58,11 +58,13 @@ module _ (n : ℕ) (rooms : List Standing) (queue : List Queued) (queued : ℕ) 
       → (times : List ℕ) → Counted times (placesNaming queue queued 16) → record { fine = true; times = times } ≡ namedIn n rooms queue queued
   unfolding namedIn placesNaming
   named-all long a times k =
-      rw
-      (a, listed-is
-        16
-        (λ c. count (λ q. eqb (q .room) c) (take queued queue))
-        0
-        times
-        (k .long)
-        (λ c h. k .at c h ∙ prefix-all (λ q. eqb (q .room) c) queue queued 16 (omega arith)))
+      rw (
+        a,
+        listed-is
+            16
+            (λ c. count (λ q. eqb (q .room) c) (take queued queue))
+            0
+            times
+            (k .long)
+            (λ c h. k .at c h ∙ prefix-all (λ q. eqb (q .room) c) queue queued 16 (omega arith)),
+      )

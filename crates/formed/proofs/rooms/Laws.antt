@@ -127,9 +127,14 @@ module _ (n c : ℕ) (r : Room) where
       pub owes-some : r .lender < n → n < 256 → not (r .token) ≡ owesRightly n c r
       unfolding owesRightly
       owes-some h k =
-          simp
-          (le-leb (r .credit) 5 (omega arith), ne-eqb (r .credit) 0 some, lt-ltb (r .lender) n h, ne-eqb (r .lender) 255 (omega arith),
-            ne-eqb (r .lender) c other, implies-false)
+          simp (
+            le-leb (r .credit) 5 (omega arith),
+            ne-eqb (r .credit) 0 some,
+            lt-ltb (r .lender) n h,
+            ne-eqb (r .lender) 255 (omega arith),
+            ne-eqb (r .lender) c other,
+            implies-false,
+          )
 
 -- the loop over the entries
 pub entries-all : (n c : ℕ) (entries : List Entry) → allBelow 16 (λ j. entryFine n c j (getD entries j noEntry)) ≡ entriesFine n c entries
@@ -162,7 +167,7 @@ module _ (a b d e f g h i j k l m z : Bool) where
 module _ (n c : ℕ) (r : Room) where
   room-parts : roomFine n c r
       ≡ (ltb (r .toward) n && Bool·beq (eqb (r .toward) c) (r .token) && holdsRightly (r .held) (r .wanted) (r .token) && owesRightly n c r
-        && entriesFine n c (r .entries))
+      && entriesFine n c (r .entries))
   unfolding roomFine holdsRightly owesRightly entriesFine
   room-parts =
       by-subject
@@ -187,7 +192,7 @@ module _ (n c : ℕ) (r : Room) where
   module _ (low : c < n) where
     parts : placeFine n c r
         ≡ (ltb (r .toward) n && Bool·beq (eqb (r .toward) c) (r .token) && holdsRightly (r .held) (r .wanted) (r .token) && owesRightly n c r
-          && entriesFine n c (r .entries))
+        && entriesFine n c (r .entries))
     unfolding placeFine
     parts = simp (lt-ltb c n low) room-parts
 
@@ -210,8 +215,8 @@ module _ (n c : ℕ) (r : Room) where
         room-entries t k p q b e =
             rw parts
             (simp
-              (lt-ltb (r .toward) n t, not-false (Bool·beq (eqb (r .toward) c) (r .token)) k, sym holds ∙ not-false h p, sym owes ∙ not-false o q)
-              e)
+            (lt-ltb (r .toward) n t, not-false (Bool·beq (eqb (r .toward) c) (r .token)) k, sym holds ∙ not-false h p, sym owes ∙ not-false o q)
+            e)
 
 -- a record that should be blank, field by field
 module _ (r : Room) where

@@ -46,7 +46,7 @@ times-due-requires c κs = search needs
 
 -- src/lib.rt:39:13
 returns : tie.Need-returns Inv-loop μ-loop
-returns c = 
+returns c =
     let s = c .before .before .before .before .before .args in
     let j = c .before .before .before .before .loop .c in
     let bad = times-wrong (s .t2) (s .t3) j _ (c .before .times-due .ensures) (c .if1 .taken) in
@@ -62,7 +62,7 @@ loop-less c = search needs
 
 -- src/lib.rt:36:5
 loop-again : tie.Need-loop-again Inv-loop μ-loop
-loop-again c = 
+loop-again c =
     let s = c .before .before .before .before .before .args in
     let k = c .before .before .before .before .loop in
     let good = times-right (s .t2) (s .t3) (k .c) _ (c .before .times-due .ensures) (c .if1 .left) in
@@ -70,7 +70,7 @@ loop-again c =
 
 -- src/lib.rt:31:1
 returns-2 : tie.Need-returns-2 Inv-loop μ-loop
-returns-2 c = 
+returns-2 c =
     let k = c .before .loop in
     let e : k .c ≡ c .before .before .args .n = omega arith in
     sym (rw e at (k .inv .1)) ∙ times-all _ _ _

@@ -83,7 +83,7 @@ array-read-times c = search needs
 
 -- src/lib.rt:76:13
 add-times : tie.Need-add-times Inv-loop μ-loop
-add-times c = 
+add-times c =
     let k = c .before .before .before .before .before .before .loop in
     omega (arith, looked-times _ _ _ _ _ (k .inv) (c .before .named-by .result) (c .if5 .taken))
 
@@ -97,7 +97,7 @@ tokens-in-requires c κs = search needs
 
 -- src/lib.rt:78:9
 add-tokens : tie.Need-add-tokens Inv-loop μ-loop
-add-tokens c = 
+add-tokens c =
     let k = c .before .before .before .before .before .before .before .loop in
     omega (arith, looked-tokens _ _ _ _ _ (k .inv) _ (c .tokens-in .ensures))
 
@@ -111,16 +111,16 @@ loop-less c = search needs
 
 -- src/lib.rt:69:5
 loop-again : tie.Need-loop-again Inv-loop μ-loop
-loop-again c = 
+loop-again c =
     let k = c .before .before .before .before .before .before .before .loop in
     let turn = c .before .before .before .before .before .before .loop-test .taken in
     let tested = c .before .before .before .before .wire-fine .ensures in
     let fine = c .before .before .before .if4 .left in
     let more = names-next _ _ _ _ _ (k .inv) turn _ tested fine _ (c .before .before .named-by .ensures) in
     looked-next _ _ _ _ _ (k .inv) turn _ tested fine _ (c .tokens-in .ensures) _ (⊎-elim
-      (λ w. counted-raised _ _ _ (k .inv .named) _ more _ (w .0 .taken) (w .1))
-      (λ w. counted-kept _ _ _ (k .inv .named) _ more _ (w .0 .left) (w .1))
-      (c .before .if5 .came))
+    (λ w. counted-raised _ _ _ (k .inv .named) _ more _ (w .0 .taken) (w .1))
+    (λ w. counted-kept _ _ _ (k .inv .named) _ more _ (w .0 .left) (w .1))
+    (c .before .if5 .came))
 
 -- src/lib.rt:81:20
 times-fine-requires : tie.Need-times-fine-requires Inv-loop μ-loop
@@ -128,14 +128,14 @@ times-fine-requires c κs = fit-rooms _ _ _ (c .before .before .loop .inv .sizes
 
 -- src/lib.rt:46:1
 returns-5 : tie.Need-returns-5 Inv-loop μ-loop
-returns-5 c = 
+returns-5 c =
     let k = c .before .before .before .loop in
     let e : k .i ≡ 256 = omega arith in
     well-so _ _ _ _ (rw e at (k .inv)) (c .before .if6 .taken) _ (c .times-fine .ensures)
 
 -- src/lib.rt:46:1
 returns-6 : tie.Need-returns-6 Inv-loop μ-loop
-returns-6 c = 
+returns-6 c =
     let k = c .before .before .loop in
     let e : k .i ≡ 256 = omega arith in
     well-not _ _ _ _ (rw e at (k .inv)) (c .if6 .left)

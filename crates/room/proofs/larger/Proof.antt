@@ -2,19 +2,13 @@ use Rattle.room.proofs.Laws.{larger-first, larger-second}
 use borrow.Author.Needs.{needs}
 use Rattle.room.proofs.larger.Statement.{statement}
 use Rattle.room.proofs.larger.Tie as tie
-use Rattle.room.proofs.larger.Reads as reads
-use Rattle.room.proofs.larger.Lts as lts
-use Rattle.modes.proofs.stronger.Reads as stronger-reads
 
--- src/lib.rt:256:8
 stronger-requires : tie.Need-stronger-requires
 stronger-requires c κs = search needs
 
--- src/lib.rt:253:1
 returns : tie.Need-returns
 returns c = search (needs, larger-second)
 
--- src/lib.rt:253:1
 returns-2 : tie.Need-returns-2
 returns-2 c = search (needs, larger-first)
 

@@ -8,84 +8,65 @@ use Rattle.step.proofs.Steps.{room-low, refused-plans, deliver-plans}
 use borrow.Author.Needs.{needs}
 use Rattle.step.proofs.deliver.Statement.{statement}
 use Rattle.step.proofs.deliver.Tie as tie
-use Rattle.step.proofs.deliver.Reads as reads
-use Rattle.step.proofs.deliver.Lts as lts
-use Rattle.act.proofs.receive.Reads as receive-reads
-use Rattle.step.proofs.plan.refused.Reads as refused-reads
-use Rattle.table.proofs.oldest.Reads as oldest-reads
 
--- src/lib.rt:119:9
 refused-requires : tie.Need-refused-requires
 refused-requires c κs = search needs
 
--- src/lib.rt:119:9
 returns : tie.Need-returns
-returns c = 
+returns c =
     let s = c .before .before .before in
     let t = s .args .t1 in
     let e = s .args .e in
     refused-plans t e 3 (λ q. omega arith) (refused-room t e (s .pre .0) (omega arith) (omega arith)) _ (c .refused .ensures)
 
--- src/lib.rt:122:9
 refused-requires-2 : tie.Need-refused-requires-2
 refused-requires-2 c κs = search needs
 
--- src/lib.rt:122:9
 returns-2 : tie.Need-returns-2
-returns-2 c = 
+returns-2 c =
     let s = c .before .before .before .before .before in
     let t = s .args .t1 in
     let e = s .args .e in
     refused-plans t e 3 (λ q. omega arith) (deliver-to t e (s .pre .0) (s .pre .1) (omega arith) (omega arith)) _ (c .refused2 .ensures)
 
--- src/lib.rt:124:40
 oldest-requires : tie.Need-oldest-requires
 oldest-requires c κs = search needs
 
--- src/lib.rt:124:21
 enum-known-place : tie.Need-enum-known-place
 enum-known-place c = search needs
 
--- src/lib.rt:125:9
 enum-told : tie.Need-enum-told
 enum-told c = search needs
 
--- src/lib.rt:125:9
 refused-requires-3 : tie.Need-refused-requires-3
 refused-requires-3 c κs = search needs
 
--- src/lib.rt:125:9
 returns-3 : tie.Need-returns-3
-returns-3 c = 
+returns-3 c =
     let s = c .before .before .before .before .before .before .before .before in
     let t = s .args .t1 in
     let e = s .args .e in
     refused-plans t e 8 (λ q. omega arith) (deliver-empty t e (s .pre .0) (s .pre .1) (c .before .before .before .before .before .before .if1 .left) (c .before .before .before .before .if2 .left) _ (c .before .before .before .oldest .ensures) (c .before .enum-told .given .1)) _ (c .refused3 .ensures)
 
--- src/lib.rt:127:13
 cast-b : tie.Need-cast-b
 cast-b c = search needs
 
--- src/lib.rt:128:16
 mul-room : tie.Need-mul-room
 mul-room c = search needs
 
--- src/lib.rt:128:16
 element-copy-out-room : tie.Need-element-copy-out-room
-element-copy-out-room c = 
+element-copy-out-room c =
     let s = c .before .before .before .before .before .before .before .before .before in
     let t = s .args .t1 in
     let e = s .args .e in
     let shape = shaped t (s .good .0) in
     room-low t shape (s .pre .0) (e .other) (omega arith)
 
--- src/lib.rt:130:9
 receive-requires : tie.Need-receive-requires
 receive-requires c κs = search needs
 
--- src/lib.rt:114:1
 returns-4 : tie.Need-returns-4
-returns-4 c = 
+returns-4 c =
     let s = c .before .before .before .before .before .before .before .before .before .before .before .before in
     let t = s .args .t1 in
     let e = s .args .e in

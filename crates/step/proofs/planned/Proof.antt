@@ -8,68 +8,47 @@ use Rattle.step.proofs.Steps.{refused-plans}
 use borrow.Author.Needs.{needs}
 use Rattle.step.proofs.planned.Statement.{statement}
 use Rattle.step.proofs.planned.Tie as tie
-use Rattle.step.proofs.planned.Reads as reads
-use Rattle.step.proofs.planned.Lts as lts
-use Rattle.formed.proofs.well_formed.Reads as well-formed-reads
-use Rattle.step.proofs.ask.Reads as ask-reads
-use Rattle.step.proofs.deliver.Reads as deliver-reads
-use Rattle.step.proofs.hand_back.Reads as hand-back-reads
-use Rattle.step.proofs.plan.refused.Reads as refused-reads
-use Rattle.step.proofs.upgrade.Reads as upgrade-reads
 
 -- past the first test the table is well formed
 well : (c : tie.Else1) → wellFormed (c .before .before .args .t) ≡ true
 well c = sym (c .before .well-formed .ensures) ∙ not-false _ (c .if1 .left)
 
--- src/lib.rt:138:9
 well-formed-requires : tie.Need-well-formed-requires
 well-formed-requires c κs = search needs
 
--- src/lib.rt:139:9
 refused-requires : tie.Need-refused-requires
 refused-requires c κs = search needs
 
--- src/lib.rt:139:9
 returns : tie.Need-returns
 returns c = refused-plans _ _ 1 (λ q. omega arith) (refused-table _ _ (sym (c .before .before .well-formed .ensures) ∙ not-true _ (c .before .if1 .taken))) _ (c .refused .ensures)
 
--- src/lib.rt:143:16
 ask-requires : tie.Need-ask-requires
 ask-requires c κs = (well (c .before), c .match .keys1)
 
--- src/lib.rt:144:20
 upgrade-requires : tie.Need-upgrade-requires
 upgrade-requires c κs = (well (c .before), c .match .keys2)
 
--- src/lib.rt:145:21
 hand-back-requires : tie.Need-hand-back-requires
 hand-back-requires c κs = (well (c .before), c .match .keys3)
 
--- src/lib.rt:146:20
 deliver-requires : tie.Need-deliver-requires
 deliver-requires c κs = (well (c .before), c .match .keys4)
 
--- src/lib.rt:147:20
 refused-requires-2 : tie.Need-refused-requires-2
 refused-requires-2 c κs = search needs
 
--- src/lib.rt:135:1
 returns-2 : tie.Need-returns-2
 returns-2 c = search needs
 
--- src/lib.rt:135:1
 returns-3 : tie.Need-returns-3
 returns-3 c = search needs
 
--- src/lib.rt:135:1
 returns-4 : tie.Need-returns-4
 returns-4 c = search needs
 
--- src/lib.rt:135:1
 returns-5 : tie.Need-returns-5
 returns-5 c = search needs
 
--- src/lib.rt:135:1
 returns-6 : tie.Need-returns-6
 returns-6 c = refused-plans _ _ 2 (λ q. omega arith) (refused-kind _ _ (well (c .before .before)) (omega arith)) _ (c .refused2 .ensures)
 

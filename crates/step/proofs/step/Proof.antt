@@ -1,33 +1,22 @@
-use native.Mathlib.Omega.{arith}
 use Rattle.table.proofs.Known.{wires-long}
 use Rattle.step.proofs.Outcomes.{step-refused, step-takes, step-made}
 use Rattle.step.proofs.Steps.{plan-sizes}
 use borrow.Author.Needs.{needs}
 use Rattle.step.proofs.step.Statement.{statement}
 use Rattle.step.proofs.step.Tie as tie
-use Rattle.step.proofs.step.Reads as reads
-use Rattle.step.proofs.step.Lts as lts
-use Rattle.step.proofs.plan.ending.Reads as ending-reads
-use Rattle.step.proofs.planned.Reads as planned-reads
-use Rattle.step.proofs.write.written.Reads as written-reads
 
--- src/lib.rt:155:9
 planned-requires : tie.Need-planned-requires
 planned-requires c κs = search needs
 
--- src/lib.rt:157:9
 ending-requires : tie.Need-ending-requires
 ending-requires c κs = plan-sizes _ _ _ (c .planned .ensures)
 
--- src/lib.rt:159:9
 returns : tie.Need-returns
 returns c = step-refused _ _ _ (c .before .before .planned .ensures) (wires-long (c .before .before .before .args .t) (c .before .before .before .good .0)) _ (c .before .ending .ensures) (c .if1 .taken)
 
--- src/lib.rt:161:5
 written-requires : tie.Need-written-requires
 written-requires c κs = step-takes _ _ _ (c .before .before .planned .ensures) (wires-long (c .before .before .before .args .t) (c .before .before .before .good .0)) _ (c .before .ending .ensures) (c .if1 .left)
 
--- src/lib.rt:152:1
 returns-2 : tie.Need-returns-2
 returns-2 c = step-made _ _ _ (c .before .before .before .planned .ensures) (wires-long (c .before .before .before .before .args .t) (c .before .before .before .before .good .0)) _ (c .before .before .ending .ensures) (c .before .if1 .left) _ (c .written .ensures)
 

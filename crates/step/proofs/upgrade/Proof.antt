@@ -7,71 +7,56 @@ use Rattle.step.proofs.Steps.{room-low, refused-plans, upgrade-plans}
 use borrow.Author.Needs.{needs}
 use Rattle.step.proofs.upgrade.Statement.{statement}
 use Rattle.step.proofs.upgrade.Tie as tie
-use Rattle.step.proofs.upgrade.Reads as reads
-use Rattle.step.proofs.upgrade.Lts as lts
-use Rattle.act.proofs.upgrade.Reads as upgrade-reads
-use Rattle.step.proofs.plan.refused.Reads as refused-reads
 
--- src/lib.rt:77:9
 refused-requires : tie.Need-refused-requires
 refused-requires c κs = search needs
 
--- src/lib.rt:77:9
 returns : tie.Need-returns
-returns c = 
+returns c =
     let s = c .before .before .before in
     let t = s .args .t1 in
     let e = s .args .e in
     refused-plans t e 3 (λ q. omega arith) (refused-room t e (s .pre .0) (omega arith) (omega arith)) _ (c .refused .ensures)
 
--- src/lib.rt:79:13
 cast-x : tie.Need-cast-x
 cast-x c = search needs
 
--- src/lib.rt:80:16
 mul-room : tie.Need-mul-room
 mul-room c = search needs
 
--- src/lib.rt:80:16
 element-copy-out-room : tie.Need-element-copy-out-room
-element-copy-out-room c = 
+element-copy-out-room c =
     let s = c .before .before .before in
     let t = s .args .t1 in
     let e = s .args .e in
     let shape = shaped t (s .good .0) in
     room-low t shape (s .pre .0) (e .room) (omega arith)
 
--- src/lib.rt:82:9
 refused-requires-2 : tie.Need-refused-requires-2
 refused-requires-2 c κs = search needs
 
--- src/lib.rt:82:9
 returns-2 : tie.Need-returns-2
-returns-2 c = 
+returns-2 c =
     let s = c .before .before .before .before .before .before .before in
     let t = s .args .t1 in
     let e = s .args .e in
     refused-plans t e 5 (λ q. omega arith) (upgrade-waiting t e (s .pre .0) (s .pre .1) (omega arith) (c .before .if2 .taken)) _ (c .refused2 .ensures)
 
--- src/lib.rt:85:9
 refused-requires-3 : tie.Need-refused-requires-3
 refused-requires-3 c κs = search needs
 
--- src/lib.rt:85:9
 returns-3 : tie.Need-returns-3
-returns-3 c = 
+returns-3 c =
     let s = c .before .before .before .before .before .before .before .before .before in
     let t = s .args .t1 in
     let e = s .args .e in
     refused-plans t e 7 (λ q. omega arith) (upgrade-other t e (s .pre .0) (s .pre .1) (omega arith) (omega arith) (c .before .if3 .taken)) _ (c .refused3 .ensures)
 
--- src/lib.rt:88:9
 upgrade-requires : tie.Need-upgrade-requires
 upgrade-requires c κs = search needs
 
--- src/lib.rt:72:1
 returns-4 : tie.Need-returns-4
-returns-4 c = 
+returns-4 c =
     let s = c .before .before .before .before .before .before .before .before .before .before in
     let t = s .args .t1 in
     let e = s .args .e in

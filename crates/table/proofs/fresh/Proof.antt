@@ -3,27 +3,19 @@ use Rattle.table.proofs.Laws.{fresh-done, fresh-low, fresh-high}
 use borrow.Author.Needs.{needs}
 use Rattle.table.proofs.fresh.Statement.{statement}
 use Rattle.table.proofs.fresh.Tie as tie
-use Rattle.table.proofs.fresh.Reads as reads
-use Rattle.table.proofs.fresh.Lts as lts
-use Rattle.room.proofs.Room.blank.Reads as blank-reads
 
--- src/lib.rt:60:9
 blank-requires : tie.Need-blank-requires
 blank-requires c κs = search needs
 
--- src/lib.rt:67:13
 way-write-given-rooms : tie.Need-way-write-given-rooms
 way-write-given-rooms c = search needs
 
--- src/lib.rt:57:1
 returns : tie.Need-returns
 returns c = fresh-done _ _ (c .before .before .before .blank .ensures) (omega arith) (omega arith)
 
--- src/lib.rt:57:1
 returns-2 : tie.Need-returns-2
 returns-2 c = fresh-low _ _ (c .before .blank .ensures) (omega arith)
 
--- src/lib.rt:57:1
 returns-3 : tie.Need-returns-3
 returns-3 c = fresh-high _ _ (c .before .before .blank .ensures) (omega arith)
 

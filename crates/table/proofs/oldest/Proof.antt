@@ -1,18 +1,16 @@
 use Rattle.table.specs.Limits.{wireLimit}
 use borrow.Author.Needs.{needs}
 use native.Mathlib.Omega.{arith}
-use mathlib.Core.Path.{_≡_, sym, _∙_}
+use mathlib.Core.Path.{_≡_, _∙_}
 use mathlib.Core.Logic.{⊎-elim}
 use Prim.Native.Nat.{_≤_, _-_}
-use lib.ListN.{length, take, drop, length-take}
+use lib.ListN.{drop, length-take}
 use Rattle.table.specs.Tables.{messagesOf}
 use Rattle.table.specs.Oldest.{oldestIn, oldestOf}
 use Rattle.table.proofs.Known.{wires-long}
 use Rattle.table.proofs.Laws.{search-end, search-here, search-from, search-to, oldest-start}
 use Rattle.table.proofs.oldest.Statement.{statement}
 use Rattle.table.proofs.oldest.Tie as tie
-use Rattle.table.proofs.oldest.Reads as reads
-use Rattle.table.proofs.oldest.Lts as lts
 
 abbrev Inv-loop : tie.InvT-loop
 Inv-loop a b t count i₀ i = (i ≤ wireLimit) × (oldestIn a b i (drop i (messagesOf t)) ≡ oldestOf t a b)
@@ -20,56 +18,49 @@ Inv-loop a b t count i₀ i = (i ≤ wireLimit) × (oldestIn a b i (drop i (mess
 abbrev μ-loop : tie.MeasureT-loop
 μ-loop a b t count i₀ i = wireLimit - i
 
--- src/lib.rt:80:5
 loop-holds : tie.Need-loop-holds Inv-loop μ-loop
 loop-holds c = (search needs, oldest-start _ _ _)
 
--- src/lib.rt:82:13
 returns : tie.Need-returns Inv-loop μ-loop
-returns c = 
+returns c =
     let s = c .before .before .before in
     let k = c .before .before .loop in
     search-end _ _ (s .args .t1 .wires) (s .args .t1 .count) (k .i) (simp length-take (omega arith)) ∙ k .inv .1
 
--- src/lib.rt:84:17
 mul-w : tie.Need-mul-w Inv-loop μ-loop
 mul-w c = search needs
 
--- src/lib.rt:84:17
 element-copy-out-w : tie.Need-element-copy-out-w Inv-loop μ-loop
 element-copy-out-w c = search needs
 
--- src/lib.rt:88:17
 returns-2 : tie.Need-returns-2 Inv-loop μ-loop
-returns-2 c = 
+returns-2 c =
     let s = c .before .before .before .before .before .before .before .before in
     let k = c .before .before .before .before .before .before .before .loop in
     let long = wires-long (s .args .t1) (s .good .0) in
     search-here (s .args .a) (s .args .b) (s .args .t1 .wires) (s .args .t1 .count) (k .i) (omega arith) (omega arith) (omega arith) (omega arith)
     ∙ k .inv .1
 
--- src/lib.rt:91:9
 add-i : tie.Need-add-i Inv-loop μ-loop
 add-i c = search needs
 
--- src/lib.rt:80:5
 loop-less : tie.Need-loop-less Inv-loop μ-loop
 loop-less c = search needs
 
--- src/lib.rt:80:5
 loop-again : tie.Need-loop-again Inv-loop μ-loop
-loop-again c = 
+loop-again c =
     let s = c .before .before .before .before .before .before in
     let k = c .before .before .before .before .before .loop in
-    let long = wires-long (s .args .t1) (s .good .0) in
-    (omega arith, ⊎-elim
-      (λ w. search-to (s .args .a) (s .args .b) (s .args .t1 .wires) (s .args .t1 .count) (k .i) (omega arith) (omega arith) (w .0 .taken) (w .2 .left) ∙ k .inv .1)
-      (λ w. search-from (s .args .a) (s .args .b) (s .args .t1 .wires) (s .args .t1 .count) (k .i) (omega arith) (omega arith) (w .left) ∙ k .inv .1)
-      (c .if2 .came))
+    let long = wires-long (s .args .t1) (s .good .0) in (
+      omega arith,
+      ⊎-elim
+          (λ w. search-to (s .args .a) (s .args .b) (s .args .t1 .wires) (s .args .t1 .count) (k .i) (omega arith) (omega arith) (w .0 .taken) (w .2 .left) ∙ k .inv .1)
+          (λ w. search-from (s .args .a) (s .args .b) (s .args .t1 .wires) (s .args .t1 .count) (k .i) (omega arith) (omega arith) (w .left) ∙ k .inv .1)
+          (c .if2 .came),
+    )
 
--- src/lib.rt:75:1
 returns-3 : tie.Need-returns-3 Inv-loop μ-loop
-returns-3 c = 
+returns-3 c =
     let s = c .before .before in
     let k = c .before .loop in
     let long = wires-long (s .args .t1) (s .good .0) in

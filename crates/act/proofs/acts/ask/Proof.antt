@@ -2,24 +2,16 @@ use Rattle.act.proofs.Actions.{ask-token, ask-none}
 use borrow.Author.Needs.{needs}
 use Rattle.act.proofs.acts.ask.Statement.{statement}
 use Rattle.act.proofs.acts.ask.Tie as tie
-use Rattle.act.proofs.acts.ask.Reads as reads
-use Rattle.act.proofs.acts.ask.Lts as lts
-use Rattle.act.proofs.acts.ask_with.Reads as ask-with-reads
-use Rattle.act.proofs.acts.ask_without.Reads as ask-without-reads
 
--- src/acts.rt:53:9
 ask-with-requires : tie.Need-ask-with-requires
 ask-with-requires c κs = search needs
 
--- src/acts.rt:53:9
 returns : tie.Need-returns
 returns c = search (needs, ask-token)
 
--- src/acts.rt:55:5
 ask-without-requires : tie.Need-ask-without-requires
 ask-without-requires c κs = search needs
 
--- src/acts.rt:48:1
 returns-2 : tie.Need-returns-2
 returns-2 c = search (needs, ask-none)
 

@@ -4,54 +4,37 @@ use Rattle.act.proofs.Actions.{ask-behind, ask-conflict, ask-holds}
 use borrow.Author.Needs.{needs}
 use Rattle.act.proofs.acts.ask_with.Statement.{statement}
 use Rattle.act.proofs.acts.ask_with.Tie as tie
-use Rattle.act.proofs.acts.ask_with.Reads as reads
-use Rattle.act.proofs.acts.ask_with.Lts as lts
-use Rattle.modes.proofs.agree.Reads as agree-reads
-use Rattle.room.proofs.Room.owned.Reads as owned-reads
-use Rattle.act.proofs.desk.hold.Reads as hold-reads
-use Rattle.act.proofs.desk.join.Reads as join-reads
-use Rattle.act.proofs.desk.want.Reads as want-reads
 
--- src/acts.rt:26:21
 want-requires : tie.Need-want-requires
 want-requires c κs = search needs
 
--- src/acts.rt:26:9
 join-requires : tie.Need-join-requires
 join-requires c κs = search needs
 
--- src/acts.rt:26:9
 returns : tie.Need-returns
-returns c = 
+returns c =
     let s = c .before .before .before .before .before in
     let long = queue-long (s .args .d) (s .good .0) in
     ask-behind (s .args .d) _ (s .pre) _ _ (c .before .want .ensures) (c .join .ensures) (c .before .before .if1 .taken) (omega arith)
 
--- src/acts.rt:28:25
 owned-requires : tie.Need-owned-requires
 owned-requires c κs = search needs
 
--- src/acts.rt:28:9
 agree-requires : tie.Need-agree-requires
 agree-requires c κs = search needs
 
--- src/acts.rt:29:21
 want-requires-2 : tie.Need-want-requires-2
 want-requires-2 c κs = search needs
 
--- src/acts.rt:29:9
 join-requires-2 : tie.Need-join-requires-2
 join-requires-2 c κs = search needs
 
--- src/acts.rt:29:9
 returns-2 : tie.Need-returns-2
 returns-2 c = search (needs, ask-conflict)
 
--- src/acts.rt:31:5
 hold-requires : tie.Need-hold-requires
 hold-requires c κs = search needs
 
--- src/acts.rt:20:1
 returns-3 : tie.Need-returns-3
 returns-3 c = search (needs, ask-holds)
 

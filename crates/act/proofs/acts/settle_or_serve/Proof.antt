@@ -2,24 +2,16 @@ use Rattle.act.proofs.Actions.{serves, settles}
 use borrow.Author.Needs.{needs}
 use Rattle.act.proofs.acts.settle_or_serve.Statement.{statement}
 use Rattle.act.proofs.acts.settle_or_serve.Tie as tie
-use Rattle.act.proofs.acts.settle_or_serve.Reads as reads
-use Rattle.act.proofs.acts.settle_or_serve.Lts as lts
-use Rattle.act.proofs.desk.serve.Reads as serve-reads
-use Rattle.act.proofs.desk.settle.Reads as settle-reads
 
--- src/acts.rt:76:9
 serve-requires : tie.Need-serve-requires
 serve-requires c κs = search needs
 
--- src/acts.rt:76:9
 returns : tie.Need-returns
 returns c = search (needs, serves)
 
--- src/acts.rt:78:5
 settle-requires : tie.Need-settle-requires
 settle-requires c κs = search needs
 
--- src/acts.rt:71:1
 returns-2 : tie.Need-returns-2
 returns-2 c = search (needs, settles)
 

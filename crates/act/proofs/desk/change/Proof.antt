@@ -2,27 +2,19 @@ use Rattle.act.proofs.Desks.{change-nothing, change-reduce}
 use borrow.Author.Needs.{needs}
 use Rattle.act.proofs.desk.change.Statement.{statement}
 use Rattle.act.proofs.desk.change.Tie as tie
-use Rattle.act.proofs.desk.change.Reads as reads
-use Rattle.act.proofs.desk.change.Lts as lts
-use Rattle.act.proofs.desk.post.Reads as post-reads
 
--- src/desk.rt:74:26
 enum-told : tie.Need-enum-told
 enum-told c = search needs
 
--- src/desk.rt:75:24
 enum-known-send : tie.Need-enum-known-send
 enum-known-send c = search needs
 
--- src/desk.rt:75:44
 post-requires : tie.Need-post-requires
 post-requires c κs = search needs
 
--- src/desk.rt:65:1
 returns : tie.Need-returns
 returns c = search (needs, change-nothing)
 
--- src/desk.rt:65:1
 returns-2 : tie.Need-returns-2
 returns-2 c = search (needs, change-reduce)
 

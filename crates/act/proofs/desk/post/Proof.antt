@@ -4,24 +4,18 @@ use Rattle.act.proofs.Desks.{post-is}
 use borrow.Author.Needs.{needs}
 use Rattle.act.proofs.desk.post.Statement.{statement}
 use Rattle.act.proofs.desk.post.Tie as tie
-use Rattle.act.proofs.desk.post.Reads as reads
-use Rattle.act.proofs.desk.post.Lts as lts
 
--- src/desk.rt:47:5
 mul-t7 : tie.Need-mul-t7
 mul-t7 c = search needs
 
--- src/desk.rt:47:5
 element-set-from-e : tie.Need-element-set-from-e
 element-set-from-e c = search needs
 
--- src/desk.rt:48:14
 add-e : tie.Need-add-e
 add-e c = search needs
 
--- src/desk.rt:41:1
 returns : tie.Need-returns
-returns c = 
+returns c =
     let long = out-long (c .args .d) (c .good .0) in
     post-is _ _ _ (omega arith) (omega arith)
 

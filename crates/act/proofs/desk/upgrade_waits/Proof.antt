@@ -2,14 +2,10 @@ use borrow.Author.Needs.{needs}
 use Rattle.act.proofs.Desks.{waits-both, waits-not}
 use Rattle.act.proofs.desk.upgrade_waits.Statement.{statement}
 use Rattle.act.proofs.desk.upgrade_waits.Tie as tie
-use Rattle.act.proofs.desk.upgrade_waits.Reads as reads
-use Rattle.act.proofs.desk.upgrade_waits.Lts as lts
 
--- src/desk.rt:136:1
 returns : tie.Need-returns
 returns c = search (needs, waits-both)
 
--- src/desk.rt:136:1
 returns-2 : tie.Need-returns-2
 returns-2 c = search (needs, waits-not)
 

@@ -1,11 +1,7 @@
-use borrow.Author.Needs.{needs}
 use Rattle.act.proofs.Desks.{want-is}
 use Rattle.act.proofs.desk.want.Statement.{statement}
 use Rattle.act.proofs.desk.want.Tie as tie
-use Rattle.act.proofs.desk.want.Reads as reads
-use Rattle.act.proofs.desk.want.Lts as lts
 
--- src/desk.rt:90:1
 returns : tie.Need-returns
 returns c = want-is _ _
 

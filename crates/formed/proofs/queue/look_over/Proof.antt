@@ -51,7 +51,7 @@ place-fine-requires c κs = search needs
 
 -- src/queue.rt:68:13
 returns : tie.Need-returns Inv-loop μ-loop
-returns c = 
+returns c =
     named-ill _ _ _ _ (c .before .before .before .before .loop .i) (omega arith) (sym (c .before .place-fine .ensures) ∙ not-true _ (c .if1 .taken))
 
 -- src/queue.rt:70:13
@@ -68,7 +68,7 @@ array-read-times c = search needs
 
 -- src/queue.rt:72:13
 add-times : tie.Need-add-times Inv-loop μ-loop
-add-times c = 
+add-times c =
     let s = c .before .before .before .before .before .before .before .args in
     let k = c .before .before .before .before .before .before .loop in
     let at = c .before .named-by .result in
@@ -88,20 +88,23 @@ loop-less c = search needs
 
 -- src/queue.rt:65:5
 loop-again : tie.Need-loop-again Inv-loop μ-loop
-loop-again c = 
+loop-again c =
     let b = c .before .before .before .before .before .before .before in
     let k = c .before .before .before .before .before .before .loop in
     let fine = sym (c .before .before .before .place-fine .ensures) ∙ not-false _ (c .before .before .if1 .left) in
     let long = b .good .1 .1 .0 .1 .0 .1 in
-    let more = naming-next (b .args .t3) (b .args .queued) (k .i) (omega arith) (c .before .named-by .result) (c .before .named-by .ensures) in
-    (omega arith, all-more (test (b .args .n) (b .args .rooms) (b .args .t3) (b .args .queued)) (k .i) (k .inv .1) fine, ⊎-elim
-      (λ w. counted-raised _ _ _ (k .inv .2) _ more _ (w .0 .taken) (w .1))
-      (λ w. counted-kept _ _ _ (k .inv .2) _ more _ (w .0 .left) (w .1))
-      (c .if2 .came))
+    let more = naming-next (b .args .t3) (b .args .queued) (k .i) (omega arith) (c .before .named-by .result) (c .before .named-by .ensures) in (
+      omega arith,
+      all-more (test (b .args .n) (b .args .rooms) (b .args .t3) (b .args .queued)) (k .i) (k .inv .1) fine,
+      ⊎-elim
+          (λ w. counted-raised _ _ _ (k .inv .2) _ more _ (w .0 .taken) (w .1))
+          (λ w. counted-kept _ _ _ (k .inv .2) _ more _ (w .0 .left) (w .1))
+          (c .if2 .came),
+    )
 
 -- src/queue.rt:59:1
 returns-2 : tie.Need-returns-2 Inv-loop μ-loop
-returns-2 c = 
+returns-2 c =
     let k = c .before .loop in
     let e : k .i ≡ 16 = omega arith in
     named-all _ _ _ _ (c .before .before .good .1 .1 .0 .1 .0 .1) (rw e at (k .inv .1)) _ (rw e at (k .inv .2))

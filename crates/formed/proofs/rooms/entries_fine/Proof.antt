@@ -49,7 +49,7 @@ entry-fine-requires c κs = search needs
 
 -- src/rooms.rt:55:13
 returns : tie.Need-returns Inv-loop μ-loop
-returns c = 
+returns c =
     let s = c .before .before .before .before .before .args in
     let bad = sym (c .before .entry-fine .ensures) ∙ not-true _ (c .if1 .taken) in
     sym (all-fails (test (s .n) (s .c) (s .t3)) 16 (c .before .before .before .before .loop .j) (omega arith) bad) ∙ entries-all _ _ _
@@ -64,14 +64,14 @@ loop-less c = search needs
 
 -- src/rooms.rt:52:5
 loop-again : tie.Need-loop-again Inv-loop μ-loop
-loop-again c = 
+loop-again c =
     let s = c .before .before .before .before .before .args in
     let k = c .before .before .before .before .loop in
     (search needs, all-more (test (s .n) (s .c) (s .t3)) (k .j) (k .inv .1) (sym (c .before .entry-fine .ensures) ∙ not-false _ (c .if1 .left)))
 
 -- src/rooms.rt:48:1
 returns-2 : tie.Need-returns-2 Inv-loop μ-loop
-returns-2 c = 
+returns-2 c =
     let e : c .before .loop .j ≡ 16 = omega arith in
     sym (rw e at (c .before .loop .inv .1)) ∙ entries-all _ _ _
 

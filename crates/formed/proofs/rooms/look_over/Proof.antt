@@ -60,7 +60,7 @@ room-fine-requires c κs = search needs
 
 -- src/rooms.rt:178:13
 returns : tie.Need-returns Inv-loop μ-loop
-returns c = 
+returns c =
     seen-ill _ _ (c .before .before .before .before .loop .c) (omega arith) (sym (c .before .room-fine .ensures) ∙ not-true _ (c .if1 .taken))
 
 -- src/rooms.rt:180:24
@@ -77,7 +77,7 @@ array-set-from-standings c = search needs
 
 -- src/rooms.rt:182:13
 add-tokens : tie.Need-add-tokens Inv-loop μ-loop
-add-tokens c = 
+add-tokens c =
     let s = c .before .before .before .before .before .before .before .args in
     omega (arith, count-below-le (c .before .before .before .before .before .before .loop .c) (hasToken (s .t2)))
 
@@ -91,18 +91,22 @@ loop-less c = search needs
 
 -- src/rooms.rt:175:5
 loop-again : tie.Need-loop-again Inv-loop μ-loop
-loop-again c = 
+loop-again c =
     let s = c .before .before .before .before .before .before .before .args in
     let k = c .before .before .before .before .before .before .loop in
-    let fine = sym (c .before .before .before .room-fine .ensures) ∙ not-false _ (c .before .before .if1 .left) in
-    (omega arith, all-more (test (s .n) (s .t2)) (k .c) (k .inv .1) fine, ⊎-elim
-      (λ w. w .1 ∙ count-one (hasToken (s .t2)) (k .c) _ (k .inv .2) (w .0 .taken))
-      (λ w. w .1 ∙ count-same (hasToken (s .t2)) (k .c) _ (k .inv .2) (w .0 .left))
-      (c .if2 .came), filled-more _ _ _ (omega arith) (k .inv .3) _ (c .before .standing-of .ensures))
+    let fine = sym (c .before .before .before .room-fine .ensures) ∙ not-false _ (c .before .before .if1 .left) in (
+      omega arith,
+      all-more (test (s .n) (s .t2)) (k .c) (k .inv .1) fine,
+      ⊎-elim
+          (λ w. w .1 ∙ count-one (hasToken (s .t2)) (k .c) _ (k .inv .2) (w .0 .taken))
+          (λ w. w .1 ∙ count-same (hasToken (s .t2)) (k .c) _ (k .inv .2) (w .0 .left))
+          (c .if2 .came),
+      filled-more _ _ _ (omega arith) (k .inv .3) _ (c .before .standing-of .ensures),
+    )
 
 -- src/rooms.rt:168:1
 returns-2 : tie.Need-returns-2 Inv-loop μ-loop
-returns-2 c = 
+returns-2 c =
     let k = c .before .loop in
     let e : k .c ≡ 16 = omega arith in
     seen-all _ _ (rw e at (k .inv .1)) _ (rw e at (k .inv .2)) _ (rw e at (k .inv .3))

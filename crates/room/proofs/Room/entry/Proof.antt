@@ -4,24 +4,18 @@ use Rattle.room.proofs.Laws.{entry-past}
 use borrow.Author.Needs.{needs}
 use Rattle.room.proofs.Room.entry.Statement.{statement}
 use Rattle.room.proofs.Room.entry.Tie as tie
-use Rattle.room.proofs.Room.entry.Reads as reads
-use Rattle.room.proofs.Room.entry.Lts as lts
 
--- src/lib.rt:94:20
 mul-result : tie.Need-mul-result
 mul-result c = search needs
 
--- src/lib.rt:94:20
 element-copy-out-result : tie.Need-element-copy-out-result
 element-copy-out-result c = search needs
 
--- src/lib.rt:94:13
 returns : tie.Need-returns
 returns c = search needs
 
--- src/lib.rt:89:5
 returns-2 : tie.Need-returns-2
-returns-2 c = 
+returns-2 c =
     let long = entries-long (c .before .args .t1) (c .before .good .0) in
     entry-past (c .before .args .t1) (c .before .args .c) (omega arith)
 

@@ -13,8 +13,6 @@ use Rattle.room.specs.Record.{entryAt}
 use Rattle.room.proofs.Laws.{no-entries-all}
 use Rattle.room.proofs.Room.has_no_entries.Statement.{statement}
 use Rattle.room.proofs.Room.has_no_entries.Tie as tie
-use Rattle.room.proofs.Room.has_no_entries.Reads as reads
-use Rattle.room.proofs.Room.has_no_entries.Lts as lts
 
 -- the test of one entry
 abbrev isNone : Room → ℕ → Bool
@@ -26,43 +24,35 @@ Inv-loop self i₀ i = (i ≤ roomLimit) × (allBelow i (isNone self) ≡ true)
 abbrev μ-loop : tie.MeasureT-loop
 μ-loop self i₀ i = roomLimit - i
 
--- src/lib.rt:131:9
 loop-holds : tie.Need-loop-holds Inv-loop μ-loop
 loop-holds c = (search needs, refl)
 
--- src/lib.rt:132:21
 mul-e : tie.Need-mul-e Inv-loop μ-loop
 mul-e c = search needs
 
--- src/lib.rt:132:21
 element-copy-out-e : tie.Need-element-copy-out-e Inv-loop μ-loop
 element-copy-out-e c = search needs
 
--- src/lib.rt:134:17
 returns : tie.Need-returns Inv-loop μ-loop
-returns c = 
+returns c =
     let r = c .before .before .before .before .before .args .t1 in
     let i = c .before .before .before .before .loop .i in
     sym (all-fails (isNone r) roomLimit i (omega arith) (ne-eqb _ _ (c .if1 .taken))) ∙ no-entries-all r
 
--- src/lib.rt:136:13
 add-i : tie.Need-add-i Inv-loop μ-loop
 add-i c = search needs
 
--- src/lib.rt:131:9
 loop-less : tie.Need-loop-less Inv-loop μ-loop
 loop-less c = search needs
 
--- src/lib.rt:131:9
 loop-again : tie.Need-loop-again Inv-loop μ-loop
-loop-again c = 
+loop-again c =
     let r = c .before .before .before .before .before .args .t1 in
     let k = c .before .before .before .before .loop in
     (search needs, all-more (isNone r) (k .i) (k .inv .1) (eq-eqb _ _ (c .if1 .left)))
 
--- src/lib.rt:127:5
 returns-2 : tie.Need-returns-2 Inv-loop μ-loop
-returns-2 c = 
+returns-2 c =
     let e : c .before .loop .i ≡ roomLimit = omega arith in
     sym (rw e at (c .before .loop .inv .1)) ∙ no-entries-all _
 

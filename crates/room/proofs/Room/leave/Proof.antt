@@ -2,18 +2,13 @@ use borrow.Author.Needs.{needs}
 use Rattle.room.proofs.Laws.{leaving-nobody, leaving-same, leaving-other}
 use Rattle.room.proofs.Room.leave.Statement.{statement}
 use Rattle.room.proofs.Room.leave.Tie as tie
-use Rattle.room.proofs.Room.leave.Reads as reads
-use Rattle.room.proofs.Room.leave.Lts as lts
 
--- src/lib.rt:195:13
 returns : tie.Need-returns
 returns c = search (needs, leaving-nobody)
 
--- src/lib.rt:198:13
 returns-2 : tie.Need-returns-2
 returns-2 c = search (needs, leaving-same)
 
--- src/lib.rt:191:5
 returns-3 : tie.Need-returns-3
 returns-3 c = search (needs, leaving-other)
 

@@ -1,15 +1,12 @@
 use Rattle.room.specs.Limits.{roomLimit}
 use borrow.Author.Needs.{needs}
 use native.Mathlib.Omega.{arith}
-use mathlib.Core.Path.{_≡_, refl, sym, _∙_}
+use mathlib.Core.Path.{_≡_}
 use Prim.Native.Nat.{_≤_, _-_}
 use Rattle.room.specs.Owned.{strongest}
 use Rattle.room.proofs.Laws.{strongest-none, strongest-more, owned-strongest}
 use Rattle.room.proofs.Room.owned.Statement.{statement}
 use Rattle.room.proofs.Room.owned.Tie as tie
-use Rattle.room.proofs.Room.owned.Reads as reads
-use Rattle.room.proofs.Room.owned.Lts as lts
-use Rattle.room.proofs.larger.Reads as larger-reads
 
 abbrev Inv-loop : tie.InvT-loop
 Inv-loop self best₀ i₀ best i = (i ≤ roomLimit) × (best ≡ strongest self i)
@@ -17,37 +14,29 @@ Inv-loop self best₀ i₀ best i = (i ≤ roomLimit) × (best ≡ strongest sel
 abbrev μ-loop : tie.MeasureT-loop
 μ-loop self best₀ i₀ best i = roomLimit - i
 
--- src/lib.rt:118:9
 loop-holds : tie.Need-loop-holds Inv-loop μ-loop
 loop-holds c = (search needs, strongest-none _)
 
--- src/lib.rt:119:21
 mul-e : tie.Need-mul-e Inv-loop μ-loop
 mul-e c = search needs
 
--- src/lib.rt:119:21
 element-copy-out-e : tie.Need-element-copy-out-e Inv-loop μ-loop
 element-copy-out-e c = search needs
 
--- src/lib.rt:120:13
 larger-requires : tie.Need-larger-requires Inv-loop μ-loop
 larger-requires c κs = search needs
 
--- src/lib.rt:121:13
 add-i : tie.Need-add-i Inv-loop μ-loop
 add-i c = search needs
 
--- src/lib.rt:118:9
 loop-less : tie.Need-loop-less Inv-loop μ-loop
 loop-less c = search needs
 
--- src/lib.rt:118:9
 loop-again : tie.Need-loop-again Inv-loop μ-loop
 loop-again c = (search needs, strongest-more _ _ _ _ (c .before .before .before .loop .inv .1) (c .larger .ensures))
 
--- src/lib.rt:113:5
 returns : tie.Need-returns Inv-loop μ-loop
-returns c = 
+returns c =
     let e : c .before .loop .i ≡ roomLimit = omega arith in
     owned-strongest _ _ (rw e at (c .before .loop .inv .1))
 

@@ -4,24 +4,18 @@ use Rattle.room.proofs.Laws.{set-past}
 use borrow.Author.Needs.{needs}
 use Rattle.room.proofs.Room.with_entry.Statement.{statement}
 use Rattle.room.proofs.Room.with_entry.Tie as tie
-use Rattle.room.proofs.Room.with_entry.Reads as reads
-use Rattle.room.proofs.Room.with_entry.Lts as lts
 
--- src/lib.rt:106:13
 mul-e : tie.Need-mul-e
 mul-e c = search needs
 
--- src/lib.rt:106:13
 element-set-from-e : tie.Need-element-set-from-e
 element-set-from-e c = search needs
 
--- src/lib.rt:107:13
 returns : tie.Need-returns
 returns c = search needs
 
--- src/lib.rt:100:5
 returns-2 : tie.Need-returns-2
-returns-2 c = 
+returns-2 c =
     let long = entries-long (c .before .args .self) (c .before .good .0) in
     set-past _ _ _ (omega arith)
 

@@ -3,30 +3,22 @@ use native.Mathlib.Omega.{arith}
 use Rattle.step.proofs.Outcomes.{ending-own, ending-worn, ending-full, ending-done}
 use Rattle.step.proofs.plan.ending.Statement.{statement}
 use Rattle.step.proofs.plan.ending.Tie as tie
-use Rattle.step.proofs.plan.ending.Reads as reads
-use Rattle.step.proofs.plan.ending.Lts as lts
 
--- src/plan.rt:49:20
 returns : tie.Need-returns
 returns c = ending-own _ _ (λ q. omega arith)
 
--- src/plan.rt:53:9
 returns-2 : tie.Need-returns-2
 returns-2 c = search (needs, ending-worn)
 
--- src/plan.rt:55:16
 sub-kept : tie.Need-sub-kept
 sub-kept c = omega (arith, c .before .before .before .before .pre (c .before .before .before .match .keys1))
 
--- src/plan.rt:56:20
 sub-if2 : tie.Need-sub-if2
 sub-if2 c = omega (arith, c .before .before .before .before .pre (c .before .before .before .match .keys1))
 
--- src/plan.rt:57:9
 returns-3 : tie.Need-returns-3
 returns-3 c = search (needs, ending-full)
 
--- src/plan.rt:42:1
 returns-4 : tie.Need-returns-4
 returns-4 c = search (needs, ending-done)
 

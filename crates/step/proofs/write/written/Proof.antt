@@ -8,49 +8,37 @@ use Rattle.step.proofs.Known.{plan-out-long}
 use Rattle.step.proofs.Ending.{target, Mid, mid-start, mid-more, goal-moved, goal-sent, goal-past, written-is}
 use Rattle.step.proofs.write.written.Statement.{statement}
 use Rattle.step.proofs.write.written.Tie as tie
-use Rattle.step.proofs.write.written.Reads as reads
-use Rattle.step.proofs.write.written.Lts as lts
-use Rattle.step.proofs.write.later.Reads as later-reads
-use Rattle.step.proofs.write.shorter.Reads as shorter-reads
 
 abbrev Inv-loop : tie.InvT-loop
-Inv-loop d gap old kept count at u₀ end i₀ u i = 
+Inv-loop d gap old kept count at u₀ end i₀ u i =
     (i₀ ≤ i) × (i ≤ end) × Mid u₀ (target (take old (u₀ .wires)) i₀ gap (take (d .sent) (d .out))) i u
 
 abbrev μ-loop : tie.MeasureT-loop
 μ-loop d gap old kept count at u₀ end i₀ u i = end - i
 
--- src/write.rt:45:16
 sub-kept : tie.Need-sub-kept Inv-loop μ-loop
 sub-kept c = search needs
 
--- src/write.rt:46:17
 add-count : tie.Need-add-count Inv-loop μ-loop
 add-count c = search needs
 
--- src/write.rt:47:14
 cast-at : tie.Need-cast-at Inv-loop μ-loop
 cast-at c = search needs
 
--- src/write.rt:49:9
 shorter-requires : tie.Need-shorter-requires Inv-loop μ-loop
 shorter-requires c κs = search needs
 
--- src/write.rt:51:5
 mul-room : tie.Need-mul-room Inv-loop μ-loop
 mul-room c = search needs
 
--- src/write.rt:51:5
 element-set-from-room : tie.Need-element-set-from-room Inv-loop μ-loop
 element-set-from-room c = search needs
 
--- src/write.rt:55:9
 later-requires : tie.Need-later-requires Inv-loop μ-loop
 later-requires c κs = search needs
 
--- src/write.rt:57:5
 loop-holds : tie.Need-loop-holds Inv-loop μ-loop
-loop-holds c = 
+loop-holds c =
     let s = c .before .before .before .before .before .before in
     let t = s .args .t in
     let p = s .args .p in
@@ -58,81 +46,65 @@ loop-holds c =
     let far = plan-out-long p (s .good .1 .0) in
     (omega arith, omega arith, mid-start t (p .me) (p .place) (p .gap) (s .pre .0) long (p .done) (omega arith) _ _)
 
--- src/write.rt:59:29
 add-w : tie.Need-add-w Inv-loop μ-loop
 add-w c = search needs
 
--- src/write.rt:59:21
 mul-w : tie.Need-mul-w Inv-loop μ-loop
 mul-w c = search needs
 
--- src/write.rt:59:21
 element-copy-out-w : tie.Need-element-copy-out-w Inv-loop μ-loop
 element-copy-out-w c = search needs
 
--- src/write.rt:60:13
 mul-w-2 : tie.Need-mul-w-2 Inv-loop μ-loop
 mul-w-2 c = search needs
 
--- src/write.rt:60:13
 element-set-from-w : tie.Need-element-set-from-w Inv-loop μ-loop
 element-set-from-w c = search needs
 
--- src/write.rt:62:21
 mul-w-3 : tie.Need-mul-w-3 Inv-loop μ-loop
 mul-w-3 c = search needs
 
--- src/write.rt:62:21
 element-copy-out-w-2 : tie.Need-element-copy-out-w-2 Inv-loop μ-loop
 element-copy-out-w-2 c = search needs
 
--- src/write.rt:63:13
 mul-w-4 : tie.Need-mul-w-4 Inv-loop μ-loop
 mul-w-4 c = search needs
 
--- src/write.rt:63:13
 element-set-from-w-2 : tie.Need-element-set-from-w-2 Inv-loop μ-loop
 element-set-from-w-2 c = search needs
 
--- src/write.rt:65:13
 mul-t38 : tie.Need-mul-t38 Inv-loop μ-loop
 mul-t38 c = search needs
 
--- src/write.rt:65:13
 element-set-from-u : tie.Need-element-set-from-u Inv-loop μ-loop
 element-set-from-u c = search needs
 
--- src/write.rt:67:9
 add-i : tie.Need-add-i Inv-loop μ-loop
 add-i c = search needs
 
--- src/write.rt:57:5
 loop-less : tie.Need-loop-less Inv-loop μ-loop
 loop-less c = search needs
 
--- src/write.rt:57:5
 loop-again : tie.Need-loop-again Inv-loop μ-loop
-loop-again c = 
+loop-again c =
     let s = c .before .before .before .before .before .before .before .before .before in
     let t = s .args .t in
     let p = s .args .p in
     let long = wires-long t (s .good .0) in
     let far = plan-out-long p (s .good .1 .0) in
-    let k = c .before .before .loop in
-    (
+    let k = c .before .before .loop in (
       omega arith,
       omega arith,
       ⊎-elim
-      (λ w. mid-more _ _ (k .i) (k .u) (k .inv .2) (omega arith) _ (goal-moved t (p .me) (p .place) (p .gap) (s .pre .0) long (p .done) (omega arith) (k .i) (k .u .wires) (k .inv .2 .half) (omega arith) (omega arith)) _ (w .2))
-      (⊎-elim
-      (λ w. mid-more _ _ (k .i) (k .u) (k .inv .2) (omega arith) _ (goal-sent t (p .me) (p .place) (p .gap) (s .pre .0) long (p .done) (omega arith) (k .i) (omega arith) (omega arith)) _ (w .3))
-      (λ w. mid-more _ _ (k .i) (k .u) (k .inv .2) (omega arith) _ (goal-past t (p .me) (p .place) (p .gap) (s .pre .0) long (p .done) (omega arith) (k .i) (omega arith)) _ (w .2)))
-      (c .if1 .came),
+          (λ w. mid-more _ _ (k .i) (k .u) (k .inv .2) (omega arith) _ (goal-moved t (p .me) (p .place) (p .gap) (s .pre .0) long (p .done) (omega arith) (k .i) (k .u .wires) (k .inv .2 .half) (omega arith) (omega arith)) _ (w .2))
+          (⊎-elim
+          (λ w. mid-more _ _ (k .i) (k .u) (k .inv .2) (omega arith) _ (goal-sent t (p .me) (p .place) (p .gap) (s .pre .0) long (p .done) (omega arith) (k .i) (omega arith) (omega arith)) _ (w .3))
+          (λ w. mid-more _ _ (k .i) (k .u) (k .inv .2) (omega arith) _ (goal-past t (p .me) (p .place) (p .gap) (s .pre .0) long (p .done) (omega arith) (k .i) (omega arith)) _ (w .2)))
+          (c .if1 .came),
     )
 
--- src/write.rt:38:1
 returns : tie.Need-returns Inv-loop μ-loop
-returns c = 
+returns c =
     let s = c .before .before .before .before .before .before .before .before in
     let t = s .args .t in
     let p = s .args .p in
