@@ -28,10 +28,7 @@ pub struct Desk {
 }
 
 // A desk after one turn of serving, and whether another may follow.
-pub struct Turned {
-    pub desk: Desk,
-    pub again: bool,
-}
+pub struct Turned(pub Desk, pub bool);
 
 // A message to room y, after those sent already.
 pub fn post(d: Desk, y: u8, message: Message) -> Desk
@@ -185,48 +182,30 @@ fn upgraded(d: Desk) -> Desk
 // One turn of serving: the head of the queue, if it can be taken off.
 fn turn(d: Desk) -> Turned
     requires { ⌜ Ready d ⌝ }
-    ensures { λ r. ⌜ Turns d (r .again) (r .desk) ⌝ }
+    ensures { λ r. ⌜ Turns d (r .1) (r .0) ⌝ }
 {
     let at = d.first;
     if at >= d.last {
-        return Turned {
-            desk: d,
-            again: false,
-        };
+        return Turned(d, false);
     }
     let room = d.room;
     if upgrade_waits(room) {
-        return Turned {
-            desk: d,
-            again: false,
-        };
+        return Turned(d, false);
     }
     let q = d.queue[at];
     let own = room.owned();
     if !modes::agree(own, q.mode) {
-        return Turned {
-            desk: d,
-            again: false,
-        };
+        return Turned(d, false);
     }
     let mut e = d;
     e.first = at + 1;
     if q.room == d.me {
-        return Turned {
-            desk: hold(e, q.mode),
-            again: true,
-        };
+        return Turned(hold(e, q.mode), true);
     }
     if modes::can_lend(own, q.mode) {
-        return Turned {
-            desk: lend(e, q.room, q.mode),
-            again: true,
-        };
+        return Turned(lend(e, q.room, q.mode), true);
     }
-    Turned {
-        desk: pass(e, q.room, q.mode),
-        again: false,
-    }
+    Turned(pass(e, q.room, q.mode), false)
 }
 
 // With the token: a waiting upgrade, then the queue.
@@ -238,8 +217,8 @@ pub fn serve(d: Desk) -> Desk
     let mut again = true;
     while again {
         let t = turn(e);
-        e = t.desk;
-        again = t.again;
+        e = t.0;
+        again = t.1;
     }
     e
 }

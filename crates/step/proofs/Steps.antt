@@ -27,7 +27,7 @@ use Rattle.act.specs.declared.Done.{Done}
 use Rattle.act.specs.Done.{doneOf}
 use Rattle.step.specs.declared.plan.Plan.{Plan}
 use Rattle.step.specs.Writes.{Takes}
-use Rattle.step.specs.Plans.{refusedPlan, Plans}
+use Rattle.step.specs.Plans.{madePlan, refusedPlan, Plans}
 use Rattle.step.proofs.Outcomes.{without-none, without-one}
 use Rattle.step.proofs.Queues.{Grows, ask-grows, upgrade-grows, hand-back-grows, receive-grows}
 use Rattle.step.proofs.Places.{queue-fits, asks-place, receive-place}
@@ -52,7 +52,7 @@ module _ (t : Table) (s : Shaped t) (f : wellFormed t ≡ true) where
   -- an event of room x that takes no message
   module _ (e : Event) (x : ℕ) (low : x < t .n) (d : Done) (sent : d .sent ≤ outLimit) where
     plans : (w : Work) (most : ℕ) → Grows most (workAt t x) w → most ≤ queueLimit → d ≡ doneOf w → outcome t (messagesOf t) w ≡ stepOf t e
-        → Plans t e (record { «number» = 0; me = x; place = t .count; gap = 0; done = d })
+        → Plans t e (madePlan x (t .count) 0 d)
     plans w most g k p q =
         record {
           refused = λ z. absurd (z refl);
@@ -68,21 +68,21 @@ module _ (t : Table) (s : Shaped t) (f : wellFormed t ≡ true) where
         }
 
     pub ask-plans : (m : ℕ) → roomAt t x .wanted ≡ 0 → roomAt t x .held ≡ 0 → d ≡ doneOf (ask (workAt t x) m)
-        → outcome t (messagesOf t) (ask (workAt t x) m) ≡ stepOf t e → Plans t e (record { «number» = 0; me = x; place = t .count; gap = 0; done = d })
+        → outcome t (messagesOf t) (ask (workAt t x) m) ≡ stepOf t e → Plans t e (madePlan x (t .count) 0 d)
     ask-plans m free empty = plans (ask (workAt t x) m) _ (ask-grows (workAt t x) m) (omega (arith, asks-place t s f x low free empty))
 
     pub upgrade-plans : d ≡ doneOf (upgrade (workAt t x)) → outcome t (messagesOf t) (upgrade (workAt t x)) ≡ stepOf t e
-        → Plans t e (record { «number» = 0; me = x; place = t .count; gap = 0; done = d })
+        → Plans t e (madePlan x (t .count) 0 d)
     upgrade-plans = plans (upgrade (workAt t x)) _ (upgrade-grows (workAt t x)) (queue-fits t s f)
 
     pub back-plans : d ≡ doneOf (handBack (workAt t x)) → outcome t (messagesOf t) (handBack (workAt t x)) ≡ stepOf t e
-        → Plans t e (record { «number» = 0; me = x; place = t .count; gap = 0; done = d })
+        → Plans t e (madePlan x (t .count) 0 d)
     back-plans = plans (handBack (workAt t x)) _ (hand-back-grows (workAt t x)) (queue-fits t s f)
 
   -- a delivery at room b
   pub deliver-plans : (e : Event) (a b : ℕ) → b < t .n → (d : Done) → d .sent ≤ outLimit → (k : ℕ) (m : Message) → oldestOf t a b ≡ found.At k m
       → d ≡ doneOf (receive (workAt t b) a m) → outcome t (remove k (messagesOf t)) (receive (workAt t b) a m) ≡ stepOf t e
-      → Plans t e (record { «number» = 0; me = b; place = k; gap = 1; done = d })
+      → Plans t e (madePlan b k 1 d)
   deliver-plans e a b low d sent k m o p q =
       let g = receive-grows (workAt t b) a m in
       record {
@@ -97,6 +97,10 @@ module _ (t : Table) (s : Shaped t) (f : wellFormed t ≡ true) where
           step = ap (λ (l : List Wire). outcome t l (receive (workAt t b) a m)) (without-one t (s .wires) (facts .count) k) ∙ q;
         };
       }
+
+-- a plan is known by its parts
+pub plans-same : (t : Table) (e : Event) (p q : Plan) → p ≡ q → Plans t e q → Plans t e p
+plans-same t e p q h s = rw h s
 
 -- a refusal that the rules give is a plan
 pub refused-plans : (t : Table) (e : Event) (k : ℕ) → (k ≡ 0 → ⊥) → answer k t ≡ stepOf t e → (p : Plan) → p ≡ refusedPlan k → Plans t e p

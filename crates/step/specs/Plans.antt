@@ -2,21 +2,32 @@
 use Prim.Native.Nat.{ℕ, _-_, _≤_}
 use mathlib.Core.Path.{_≡_}
 use mathlib.Core.Bool.{false, not}
+use mathlib.Core.List.{List}
 use lib.ListN.{length, replicate}
 use lib.Dec.{ltb, eqb}
 use Rattle.base.specs.Choice.{if_then_else_}
+use Rattle.room.specs.declared.Room.{Room}
 use Rattle.room.specs.Record.{blankRoom}
+use Rattle.table.specs.declared.Queued.{Queued}
 use Rattle.table.specs.declared.Table.{Table}
 use Rattle.table.specs.Limits.{queueLimit, wireLimit}
 use Rattle.table.specs.Tables.{noWire, noQueued, answer}
 use Rattle.rules.specs.declared.Event.{Event}
 use Rattle.rules.specs.Work.{Work}
 use Rattle.rules.specs.Step.{outcome, stepOf}
+use Rattle.act.specs.declared.Start.{Start}
 use Rattle.act.specs.declared.Done.{Done}
 use Rattle.act.specs.Desk.{placeLimit, outLimit}
 use Rattle.act.specs.Done.{doneOf}
 use Rattle.step.specs.declared.plan.Plan.{Plan}
 use Rattle.step.specs.Writes.{without, Takes}
+
+-- a room before it acts, and the queue
+abbrev pub startAt : ℕ → Room → List Queued → ℕ → Start
+startAt me room queue queued = record { me = me; room = room; queue = queue; queued = queued }
+
+abbrev pub madePlan : ℕ → ℕ → ℕ → Done → Plan
+madePlan me place gap done = record { «number» = 0; me = me; place = place; gap = gap; done = done }
 
 -- nothing done
 abbrev pub idle : Done

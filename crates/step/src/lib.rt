@@ -9,10 +9,11 @@ ghost use Rattle.step.specs.Plans.{Plans};
 mod plan;
 mod write;
 
-use act::Start;
 use plan::Plan;
 use plan::ending;
+use plan::made;
 use plan::refused;
+use plan::start;
 use rules::Event;
 use table::Answer;
 use table::Found;
@@ -67,22 +68,9 @@ fn ask(t: Table, e: Event) -> Plan
         i += 1;
     }
     let queue = t.queue;
-    let done = act::ask(
-        Start {
-            me: e.room,
-            room: room,
-            queue: queue,
-            queued: t.queued,
-        },
-        mode,
-    );
-    Plan {
-        number: 0,
-        me: e.room,
-        place: t.count,
-        gap: 0,
-        done: done,
-    }
+    let s = start(e.room, room, queue, t.queued);
+    let done = act::ask(s, mode);
+    made(e.room, t.count, 0, done)
 }
 
 // UPGRADE.
@@ -102,19 +90,9 @@ fn upgrade(t: Table, e: Event) -> Plan
         return refused(7);
     }
     let queue = t.queue;
-    let done = act::upgrade(Start {
-        me: e.room,
-        room: room,
-        queue: queue,
-        queued: t.queued,
-    });
-    Plan {
-        number: 0,
-        me: e.room,
-        place: t.count,
-        gap: 0,
-        done: done,
-    }
+    let s = start(e.room, room, queue, t.queued);
+    let done = act::upgrade(s);
+    made(e.room, t.count, 0, done)
 }
 
 // HANDBACK.
@@ -134,19 +112,9 @@ fn hand_back(t: Table, e: Event) -> Plan
         return refused(7);
     }
     let queue = t.queue;
-    let done = act::hand_back(Start {
-        me: e.room,
-        room: room,
-        queue: queue,
-        queued: t.queued,
-    });
-    Plan {
-        number: 0,
-        me: e.room,
-        place: t.count,
-        gap: 0,
-        done: done,
-    }
+    let s = start(e.room, room, queue, t.queued);
+    let done = act::hand_back(s);
+    made(e.room, t.count, 0, done)
 }
 
 // DELIVER.
@@ -166,23 +134,9 @@ fn deliver(t: Table, e: Event) -> Plan
     let b = e.other as usize;
     let room = t.rooms[b];
     let queue = t.queue;
-    let done = act::receive(
-        Start {
-            me: e.other,
-            room: room,
-            queue: queue,
-            queued: t.queued,
-        },
-        e.room,
-        message,
-    );
-    Plan {
-        number: 0,
-        me: e.other,
-        place: place,
-        gap: 1,
-        done: done,
-    }
+    let s = start(e.other, room, queue, t.queued);
+    let done = act::receive(s, e.room, message);
+    made(e.other, place, 1, done)
 }
 
 // What the event asks for, on the table as it came.

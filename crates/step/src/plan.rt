@@ -2,12 +2,14 @@
 ghost use mathlib.Core.Path.{_≡_};
 ghost use Prim.Native.Nat.{_≤_};
 ghost use Rattle.table.specs.Limits.{wireLimit};
-ghost use Rattle.step.specs.Plans.{refusedPlan, endingOf};
+ghost use Rattle.step.specs.Plans.{startAt, madePlan, refusedPlan, endingOf};
 use act::Done;
 use act::OUTBOX;
 use act::PLACES;
+use act::Start;
 use room::Room;
 use table::Message;
+use table::QUEUE;
 use table::Queued;
 use table::WIRES;
 use table::Wire;
@@ -19,6 +21,31 @@ pub struct Plan {
     pub place: usize,
     pub gap: usize,
     pub done: Done,
+}
+
+// Room me before it acts, and the queue.
+pub fn start(me: u8, room: Room, queue: [Queued; QUEUE], queued: usize) -> Start
+    ensures { λ s. ⌜ s ≡ startAt me room queue queued ⌝ }
+{
+    Start {
+        me: me,
+        room: room,
+        queue: queue,
+        queued: queued,
+    }
+}
+
+// A step that is made.
+pub fn made(me: u8, place: usize, gap: usize, done: Done) -> Plan
+    ensures { λ p. ⌜ p ≡ madePlan me place gap done ⌝ }
+{
+    Plan {
+        number: 0,
+        me: me,
+        place: place,
+        gap: gap,
+        done: done,
+    }
 }
 
 // A step that is refused.

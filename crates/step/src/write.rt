@@ -46,11 +46,10 @@ pub fn written(t: Table, p: Plan) -> Answer
     let old = t.count;
     let kept = old - gap;
     let count = kept + d.sent;
-    let at = p.me as usize;
     let room = d.room;
     let queue = shorter(d.queue);
     let mut u = t;
-    u.rooms[at] = room;
+    u.rooms[p.me as usize] = room;
     u.queue = queue;
     u.queued = d.queued;
     u.count = count;

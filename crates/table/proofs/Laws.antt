@@ -16,25 +16,23 @@ use Rattle.table.specs.declared.Table.{Table}
 use Rattle.table.specs.declared.Wire.{Wire}
 use Rattle.table.specs.declared.Found.the-variants as found
 use Rattle.table.specs.Limits.{queueLimit, wireLimit}
-use Rattle.table.specs.Tables.{noWire, noQueued, messagesOf, freshTable, blankTable, freshOf, answer}
+use Rattle.table.specs.Tables.{noWire, messagesOf, emptyTable, freshTable, blankTable, freshOf, answer}
 use Rattle.table.specs.Oldest.{between, oldestIn, oldestOf}
 
--- a table of blank rooms, the first with or without the token
-abbrev pub laid : ℕ → List Room → Table
-laid n rooms = record { n = n; rooms = rooms; queue = replicate queueLimit noQueued; queued = 0; wires = replicate wireLimit noWire; count = 0 }
-
-module _ (n : ℕ) (r : Room) (e : r ≡ blankRoom) where
-  pub fresh-done : n ≤ roomLimit → 1 ≤ n → answer 0 (laid n (set (replicate roomLimit r) 0 (withToken r true (r .toward)))) ≡ freshOf n
+-- the fresh table, and what a refusal hands back, at the values that the calls give
+module _ (n : ℕ) (r : Room) (e : r ≡ blankRoom) (t : Table) where
+  pub fresh-done : n ≤ roomLimit → 1 ≤ n → t ≡ emptyTable n (set (replicate roomLimit r) 0 (withToken r true (r .toward))) → answer 0 t ≡ freshOf n
   unfolding freshOf freshTable
-  fresh-done h k = rw e (simp (le-leb 1 n k, le-leb n roomLimit h))
+  fresh-done h k q = rw (q, e) (simp (le-leb 1 n k, le-leb n roomLimit h))
 
-  pub fresh-low : n < 1 → answer 3 (laid 0 (replicate roomLimit r)) ≡ freshOf n
-  unfolding freshOf blankTable
-  fresh-low h = rw e (simp (lt-leb 1 n h))
+  module _ (q : t ≡ emptyTable 0 (replicate roomLimit r)) where
+    pub fresh-low : n < 1 → answer 3 t ≡ freshOf n
+    unfolding freshOf blankTable
+    fresh-low h = rw (q, e) (simp (lt-leb 1 n h))
 
-  pub fresh-high : roomLimit < n → answer 3 (laid 0 (replicate roomLimit r)) ≡ freshOf n
-  unfolding freshOf blankTable
-  fresh-high h = rw e (simp (lt-leb n roomLimit h, and-false))
+    pub fresh-high : roomLimit < n → answer 3 t ≡ freshOf n
+    unfolding freshOf blankTable
+    fresh-high h = rw (q, e) (simp (lt-leb n roomLimit h, and-false))
 
 -- the search at place i of a list
 module _ (a b : ℕ) (ws : List Wire) (n i : ℕ) where

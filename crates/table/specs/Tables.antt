@@ -39,29 +39,18 @@ queueOf t = take (t .queued) (t .queue)
 abbrev pub messagesOf : Table → List Wire
 messagesOf t = take (t .count) (t .wires)
 
+-- a table of n rooms with these records, and nothing queued or under way
+abbrev pub emptyTable : ℕ → List Room → Table
+emptyTable n rooms =
+    record { n = n; rooms = rooms; queue = replicate queueLimit noQueued; queued = 0; wires = replicate wireLimit noWire; count = 0 }
+
 -- "Fresh table: room 0 has the token, all toward 0, the rest none or zero."
 unfoldable pub freshTable : ℕ → Table
-freshTable n =
-    record {
-      n = n;
-      rooms = set (replicate roomLimit blankRoom) 0 (withToken blankRoom true 0);
-      queue = replicate queueLimit noQueued;
-      queued = 0;
-      wires = replicate wireLimit noWire;
-      count = 0;
-    }
+freshTable n = emptyTable n (set (replicate roomLimit blankRoom) 0 (withToken blankRoom true 0))
 
 -- a table of no rooms, with nothing in it: what a refused fresh hands back. It is not well formed.
 unfoldable pub blankTable : Table
-blankTable =
-    record {
-      n = 0;
-      rooms = replicate roomLimit blankRoom;
-      queue = replicate queueLimit noQueued;
-      queued = 0;
-      wires = replicate wireLimit noWire;
-      count = 0;
-    }
+blankTable = emptyTable 0 (replicate roomLimit blankRoom)
 
 -- a number given back, and the table after it
 abbrev pub answer : ℕ → Table → Answer

@@ -1,6 +1,6 @@
 // The table by value: rooms, queue and messages; the fresh table; the search for the oldest message; the test of well-formedness.
 ghost use mathlib.Core.Path.{_≡_};
-ghost use Rattle.table.specs.Tables.{freshOf};
+ghost use Rattle.table.specs.Tables.{emptyTable, freshOf};
 ghost use Rattle.table.specs.Oldest.{oldestOf};
 use room::ROOMS;
 use room::Room;
@@ -52,44 +52,42 @@ pub struct Answer {
     pub table: Table,
 }
 
+// A table of n rooms with these records, and nothing queued or under way.
+fn laid(n: u8, rooms: [Room; ROOMS]) -> Table
+    ensures { λ t. ⌜ t ≡ emptyTable n rooms ⌝ }
+{
+    let nothing = Wire {
+        from: 0,
+        to: 0,
+        message: Message::Nothing,
+    };
+    Table {
+        n: n,
+        rooms: rooms,
+        queue: [Queued { room: 0, mode: 0 }; QUEUE],
+        queued: 0,
+        wires: [nothing; WIRES],
+        count: 0,
+    }
+}
+
 // A fresh table of n rooms.
 pub fn fresh(n: u8) -> Answer
     ensures { λ r. ⌜ r ≡ freshOf n ⌝ }
 {
     let blank = Room::blank();
     let mut rooms = [blank; ROOMS];
-    let nothing = Wire {
-        from: 0,
-        to: 0,
-        message: Message::Nothing,
-    };
-    let wires = [nothing; WIRES];
-    let queue = [Queued { room: 0, mode: 0 }; QUEUE];
     match n {
         1..=16 => {
             rooms[0].token = true;
             Answer {
                 number: 0,
-                table: Table {
-                    n: n,
-                    rooms: rooms,
-                    queue: queue,
-                    queued: 0,
-                    wires: wires,
-                    count: 0,
-                },
+                table: laid(n, rooms),
             }
         }
         _ => Answer {
             number: 3,
-            table: Table {
-                n: 0,
-                rooms: rooms,
-                queue: queue,
-                queued: 0,
-                wires: wires,
-                count: 0,
-            },
+            table: laid(0, rooms),
         },
     }
 }

@@ -1,16 +1,27 @@
 use native.Mathlib.Omega.{arith}
+use mathlib.Core.Path.{_≡_, refl, sym, _∙_, ap}
+use Rattle.act.specs.declared.Start.{Start}
+use Rattle.act.specs.Done.{startOf, doneOf}
 use Rattle.rules.specs.Rules as rules
 use Rattle.rules.specs.Work.{workAt}
 use Rattle.step.proofs.Known.{shaped, sent-fits}
 use Rattle.step.proofs.Refused.{refused-room, back-waiting, back-empty, back-made}
-use Rattle.step.proofs.Steps.{room-low, refused-plans, back-plans}
+use Rattle.step.proofs.Steps.{room-low, refused-plans, plans-same, back-plans}
 use borrow.Author.Needs.{needs}
 use Rattle.step.proofs.hand_back.Statement.{statement}
 use Rattle.step.proofs.hand_back.Tie as tie
+use Rattle.step.proofs.hand_back.Reads as reads
+use Rattle.step.proofs.hand_back.Lts as lts
+use Rattle.act.proofs.hand_back.Reads as hand-back-reads
+use Rattle.step.proofs.plan.made.Reads as made-reads
+use Rattle.step.proofs.plan.refused.Reads as refused-reads
+use Rattle.step.proofs.plan.start.Reads as start-reads
 
+-- src/lib.rt:104:9
 refused-requires : tie.Need-refused-requires
 refused-requires c κs = search needs
 
+-- src/lib.rt:104:9
 returns : tie.Need-returns
 returns c =
     let s = c .before .before .before in
@@ -18,12 +29,15 @@ returns c =
     let e = s .args .e in
     refused-plans t e 3 (λ q. omega arith) (refused-room t e (s .pre .0) (omega arith) (omega arith)) _ (c .refused .ensures)
 
+-- src/lib.rt:106:13
 cast-x : tie.Need-cast-x
 cast-x c = search needs
 
+-- src/lib.rt:107:16
 mul-room : tie.Need-mul-room
 mul-room c = search needs
 
+-- src/lib.rt:107:16
 element-copy-out-room : tie.Need-element-copy-out-room
 element-copy-out-room c =
     let s = c .before .before .before in
@@ -32,9 +46,11 @@ element-copy-out-room c =
     let shape = shaped t (s .good .0) in
     room-low t shape (s .pre .0) (e .room) (omega arith)
 
+-- src/lib.rt:109:9
 refused-requires-2 : tie.Need-refused-requires-2
 refused-requires-2 c κs = search needs
 
+-- src/lib.rt:109:9
 returns-2 : tie.Need-returns-2
 returns-2 c =
     let s = c .before .before .before .before .before .before .before in
@@ -42,9 +58,11 @@ returns-2 c =
     let e = s .args .e in
     refused-plans t e 5 (λ q. omega arith) (back-waiting t e (s .pre .0) (s .pre .1) (omega arith) (c .before .if2 .taken)) _ (c .refused2 .ensures)
 
+-- src/lib.rt:112:9
 refused-requires-3 : tie.Need-refused-requires-3
 refused-requires-3 c κs = search needs
 
+-- src/lib.rt:112:9
 returns-3 : tie.Need-returns-3
 returns-3 c =
     let s = c .before .before .before .before .before .before .before .before .before in
@@ -52,17 +70,30 @@ returns-3 c =
     let e = s .args .e in
     refused-plans t e 7 (λ q. omega arith) (back-empty t e (s .pre .0) (s .pre .1) (omega arith) (omega arith) (c .before .if3 .taken)) _ (c .refused3 .ensures)
 
+-- src/lib.rt:115:9
+start-requires : tie.Need-start-requires
+start-requires c κs = search needs
+
+-- src/lib.rt:116:9
 hand-back-requires : tie.Need-hand-back-requires
 hand-back-requires c κs = search needs
 
+-- src/lib.rt:117:5
+made-requires : tie.Need-made-requires
+made-requires c κs = search needs
+
+-- src/lib.rt:99:1
 returns-4 : tie.Need-returns-4
 returns-4 c =
-    let s = c .before .before .before .before .before .before .before .before .before .before in
+    let s = c .before .before .before .before .before .before .before .before .before .before .before .before in
     let t = s .args .t1 in
     let e = s .args .e in
     let shape = shaped t (s .good .0) in
-    back-plans t shape (s .pre .0) e (e .room) (c .before .before .before .before .before .before .before .before .if1 .left) (c .hand-back .result) (sent-fits (c .hand-back .result) (c .hand-back .ok) (rules.handBack (workAt t (e .room))) (c .hand-back .ensures))
-    (c .hand-back .ensures) (back-made t e (s .pre .0) (s .pre .1) (c .before .before .before .before .before .before .before .before .if1 .left) (c .before .before .before .before .if2 .left) (c .before .before .if3 .left))
+    let w = rules.handBack (workAt t (e .room)) in
+    let done : c .before .hand-back .result ≡ doneOf w = c .before .hand-back .ensures ∙ ap (λ (s : Start). doneOf (rules.handBack (startOf s))) (c .before .before .start .ensures) in
+    plans-same t e _ _ (c .made .ensures)
+    (back-plans t shape (s .pre .0) e (e .room) (c .before .before .before .before .before .before .before .before .before .before .if1 .left) (c .before .hand-back .result) (sent-fits (c .before .hand-back .result) (c .before .hand-back .ok) w done)
+    done (back-made t e (s .pre .0) (s .pre .1) (c .before .before .before .before .before .before .before .before .before .before .if1 .left) (c .before .before .before .before .before .before .if2 .left) (c .before .before .before .before .if3 .left)))
 
 pub hand-back-spec : {M : Type 1} → statement M
 hand-back-spec =
@@ -77,5 +108,7 @@ hand-back-spec =
     returns-2
     refused-requires-3
     returns-3
+    start-requires
     hand-back-requires
+    made-requires
     returns-4)
