@@ -1,12 +1,10 @@
 -- What is known of a table where its rooms and its queue have been looked at, and no wire yet.
-use mathlib.Core.Path.{_≡_, refl, sym, _∙_, ap}
-use mathlib.Core.Bool.{Bool, true, false, not, _&&_}
-use mathlib.Core.List.{List}
-use Prim.Native.Nat.{ℕ, _+_, _≤_, _<_}
-use native.Mathlib.Nat.{add-zero}
+use mathlib.Core.Path.{_≡_, refl, sym, _∙_}
+use mathlib.Core.Bool.{Bool, true, false, not}
+use Prim.Native.Nat.{ℕ, _≤_, _<_}
 use native.Mathlib.Omega.{arith}
-use lib.ListN.{length, getD, take}
-use lib.Dec.{ltb, eqb}
+use lib.ListN.{length, getD}
+use lib.Dec.{ltb}
 use borrow.Author.Tests.{le-ltb, not-true, not-false}
 use Rattle.base.specs.Choice.{if_then_else_, split}
 use Rattle.base.specs.Tests.{clash}
@@ -14,17 +12,13 @@ use Rattle.base.specs.Below.{allBelow, all-at}
 use Rattle.base.specs.Sums.{one, countBelow}
 use Rattle.base.specs.Lists.{count, total-none}
 use Rattle.room.specs.declared.Room.{Room}
-use Rattle.room.specs.Record.{noRoom}
 use Rattle.table.specs.declared.Table.{Table}
-use Rattle.table.specs.declared.Queued.{Queued}
-use Rattle.table.specs.declared.Wire.{Wire}
 use Rattle.table.specs.Tables.{noQueued, roomAt, queuedAt, queueOf, messagesOf}
-use Rattle.table.specs.Formed.{sizesFit, roomsFine, isBlankRoom, queueFine, queuedFine, isBlankQueued, isToken, isNamedIn, wellFormed}
-use Rattle.formed.specs.declared.rooms.Standing.{Standing}
+use Rattle.table.specs.Formed.{sizesFit, roomsFine, isBlankRoom, queueFine, queuedFine, isBlankQueued, wellFormed}
 use Rattle.formed.specs.declared.rooms.Seen.{Seen}
 use Rattle.formed.specs.declared.queue.Named.{Named}
 use Rattle.formed.specs.Listed.{listed}
-use Rattle.formed.specs.Parts.{placeFine}
+use Rattle.formed.specs.Parts.{roomPlaceFine}
 use Rattle.formed.specs.Seen.{noStanding, standing, seenIn}
 use Rattle.formed.specs.Names.{queuePlaceFine, namedIn}
 use Rattle.formed.proofs.Lists.{length-listed, listed-at, all-same, count-past}
@@ -39,7 +33,7 @@ no-token r h = split (r .token) (λ e. clash h (sym (blank-token r e))) (λ e. e
 -- the rooms
 module _ (t : Table) (s : Seen) (e : s ≡ seenIn (t .n) (t .rooms)) where
   seen-fine : s .fine ≡ roomsFine t
-  unfolding seenIn roomsFine placeFine
+  unfolding seenIn roomsFine roomPlaceFine
   seen-fine = rw e (split (roomsFine t) (λ h. rw h) (λ h. rw h))
 
   pub seen-ill : not (s .fine) ≡ true → false ≡ wellFormed t
@@ -50,18 +44,23 @@ module _ (t : Table) (s : Seen) (e : s ≡ seenIn (t .n) (t .rooms)) where
     all-rooms = sym seen-fine ∙ not-false (s .fine) h
 
     seen-is : s ≡ record { fine = true; tokens = countBelow 16 (λ c. roomAt t c .token); rooms = listed 16 (λ c. standing (roomAt t c)) }
-    unfolding seenIn roomsFine placeFine
+    unfolding seenIn roomsFine roomPlaceFine
     seen-is = e ∙ rw all-rooms
 
     known : Known t (s .rooms)
     known c l = rw seen-is (listed-at 16 (λ c. standing (roomAt t c)) noStanding c l)
 
+    unused : (c : ℕ) → t .n ≤ c → c < 16 → roomAt t c .token ≡ false
+    unfolding roomsFine roomPlaceFine
+    unused c past l =
+        no-token (roomAt t c) (simp (le-ltb c (t .n) past) at (all-at 16 (λ c. roomPlaceFine (t .n) c (roomAt t c)) all-rooms c l))
+
     held : t .n ≤ 16 → s .tokens ≡ countBelow (t .n) (λ c. roomAt t c .token)
-    unfolding roomsFine placeFine
-    held l = rw seen-is (count-past 16 (t .n) (λ c. roomAt t c .token) l (λ c a b. no-token (roomAt t c) (simp (le-ltb c (t .n) a) at (all-at 16 (λ c. placeFine (t .n) c (roomAt t c)) all-rooms c b))))
+    held l = rw seen-is (count-past 16 (t .n) (λ c. roomAt t c .token) l unused)
 
     -- the queue
-    module _ (b : Bool) (fit : b ≡ sizesFit (t .n) (t .queued) (t .count)) (o : not b ≡ false) (q : Named) (p : q ≡ namedIn (t .n) (s .rooms) (t .queue) (t .queued)) where
+    module _ (b : Bool) (fit : b ≡ sizesFit (t .n) (t .queued) (t .count)) (o : not b ≡ false)
+        (q : Named) (p : q ≡ namedIn (t .n) (s .rooms) (t .queue) (t .queued)) where
       sizes : sizesFit (t .n) (t .queued) (t .count) ≡ true
       sizes = sym fit ∙ not-false b o
 

@@ -1,8 +1,8 @@
 -- A law for each branch of the functions at the crate's root, over plain values.
-use mathlib.Core.Path.{_≡_, refl, sym, _∙_}
+use mathlib.Core.Path.{_≡_, refl}
 use mathlib.Core.Bool.{Bool, true, false}
 use mathlib.Core.List.{List}
-use Prim.Native.Nat.{ℕ, _<_}
+use Prim.Native.Nat.{ℕ}
 use native.Mathlib.Omega.{arith}
 use lib.ListN.{getD}
 use lib.Dec.{ltb, eqb}
@@ -10,7 +10,7 @@ use borrow.Author.Tests.{lt-ltb, eq-eqb, ne-eqb}
 use Rattle.base.specs.Below.{allBelow}
 use Rattle.base.specs.Sums.{one}
 use Rattle.formed.specs.declared.rooms.Standing.{Standing}
-use Rattle.formed.specs.Seen.{noStanding}
+use Rattle.formed.specs.Seen.{standingAt}
 use Rattle.formed.specs.Names.{timesFine}
 
 module _ (due : ℕ) where
@@ -22,13 +22,13 @@ module _ (due : ℕ) where
 
 -- whether one room is named as often as it is to be
 abbrev pub timesRight : List Standing → List ℕ → ℕ → Bool
-timesRight rooms times c = eqb (getD times c 0) (one (ltb 0 (getD rooms c noStanding .due)))
+timesRight rooms times c = eqb (getD times c 0) (one (ltb 0 (standingAt rooms c .due)))
 
 pub times-all : (n : ℕ) (rooms : List Standing) (times : List ℕ) → allBelow n (timesRight rooms times) ≡ timesFine n rooms times
 unfolding timesFine
 times-all n rooms times = refl
 
-module _ (rooms : List Standing) (times : List ℕ) (c k : ℕ) (e : k ≡ one (ltb 0 (getD rooms c noStanding .due))) where
+module _ (rooms : List Standing) (times : List ℕ) (c k : ℕ) (e : k ≡ one (ltb 0 (standingAt rooms c .due))) where
   pub times-wrong : (getD times c 0 ≡ k → ⊥) → timesRight rooms times c ≡ false
   times-wrong h = rw (← e) (ne-eqb (getD times c 0) k h)
 

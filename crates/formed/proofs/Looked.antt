@@ -1,35 +1,29 @@
 -- What is known of a table where its first i wires have been looked at.
 use mathlib.Core.Path.{_≡_, refl, sym, _∙_, ap}
-use mathlib.Core.Logic.{_⊎_, inl, inr}
 use mathlib.Core.Bool.{Bool, true, false, not, _&&_, and-false}
 use mathlib.Core.List.{List}
 use Prim.Native.Nat.{ℕ, _+_, _≤_, _<_}
 use native.Mathlib.Omega.{arith}
 use lib.ListN.{length, getD, take, length-take}
 use lib.Dec.{ltb, leb, eqb}
-use borrow.Author.Tests.{ltb-true, leb-true, lt-ltb, le-ltb, eq-eqb, ne-eqb, not-true, not-false}
-use Rattle.base.specs.Choice.{if_then_else_, split}
+use borrow.Author.Tests.{leb-true, le-ltb, eq-eqb, ne-eqb, not-true, not-false}
+use Rattle.base.specs.Choice.{if_then_else_}
 use Rattle.base.specs.Tests.{and-left, and-right}
-use Rattle.base.specs.Below.{allBelow, all-at, all-more, all-fails}
+use Rattle.base.specs.Below.{allBelow, all-more, all-fails}
 use Rattle.base.specs.Sums.{one, one-le, countBelow, count-below-le}
-use Rattle.base.specs.Lists.{count, count-le, total-none}
-use Rattle.room.specs.declared.Room.{Room}
-use Rattle.room.specs.Record.{noRoom}
+use Rattle.base.specs.Lists.{count, count-le}
 use Rattle.table.specs.declared.Table.{Table}
 use Rattle.table.specs.declared.Queued.{Queued}
 use Rattle.table.specs.declared.Wire.{Wire}
 use Rattle.table.specs.Tables.{noWire, roomAt, queuedAt, wireAt, queueOf, messagesOf}
-use Rattle.table.specs.Formed.{sizesFit, roomsFine, isBlankRoom, due, queueFine, queuedFine, isBlankQueued, wiresFine, wireFine, isBlankWire, tokens, isToken, names, isNamedIn, namesFine, wellFormed}
+use Rattle.table.specs.Formed.{sizesFit, roomsFine, due, queueFine, queuedFine, isBlankQueued, wiresFine, wireFine, isBlankWire, tokens, isToken, names, isNamedIn, namesFine, wellFormed}
 use Rattle.formed.specs.declared.rooms.Standing.{Standing}
-use Rattle.formed.specs.declared.rooms.Seen.{Seen}
-use Rattle.formed.specs.declared.queue.Named.{Named}
-use Rattle.formed.specs.Listed.{listed}
-use Rattle.formed.specs.Parts.{placeFine}
-use Rattle.formed.specs.Seen.{noStanding, standing, roomsOf, seenIn}
-use Rattle.formed.specs.Names.{queuePlaceFine, wirePlaceFine, namedIn, namedBy, timesFine}
-use Rattle.formed.proofs.Lists.{listed-at, length-listed, all-same, count-past, prefix-low, prefix-all, prefix-next}
+use Rattle.formed.specs.declared.wires.Carried.{Carried}
+use Rattle.formed.specs.Seen.{standing, standingAt, roomsOf}
+use Rattle.formed.specs.Names.{queuePlaceFine, wirePlaceFine, carriedBy, timesFine}
+use Rattle.formed.proofs.Lists.{all-same, prefix-low, prefix-all, prefix-next}
 use Rattle.formed.proofs.Counted.{Counted}
-use Rattle.formed.proofs.Same.{queued-same, wire-same, named-is, blank-token, blank-name}
+use Rattle.formed.proofs.Same.{queued-same, wire-same, named-is, tokens-are, blank-token, blank-name}
 
 -- the test of one wire
 abbrev pub wireTest : Table → ℕ → Bool
@@ -54,8 +48,9 @@ tokensBy t i = countBelow (t .n) (λ c. roomAt t c .token) + count withToken (ta
 
 -- the standings are those of the rooms
 abbrev pub Known : Table → List Standing → Type 0
-Known t standings = (c : ℕ) → c < 16 → getD standings c noStanding ≡ standing (roomAt t c)
+Known t standings = (c : ℕ) → c < 16 → standingAt standings c ≡ standing (roomAt t c)
 
+-- all but the wires is as it should be, and so are the first i wires; names and tokens are counted so far
 pub record Looked (t : Table) (standings : List Standing) (times : List ℕ) (held i : ℕ) : Type 0 where
   pub long : length (t .wires) ≡ 256
   pub sizes : sizesFit (t .n) (t .queued) (t .count) ≡ true
@@ -116,9 +111,13 @@ module _ (t : Table) where
   unfolding wellFormed
   ill-wires h = simp (h, and-false)
 
+-- one turn of the loop over the wires
 module _ (t : Table) (standings : List Standing) (times : List ℕ) (held i : ℕ) (k : Looked t standings times held i) where
   fits : t .n ≤ 16
   fits = fit-rooms (t .n) (t .queued) (t .count) (k .sizes)
+
+  carries : (m : Carried) → m ≡ carriedBy (wireAt t i .to) (wireAt t i .message) → m .tokens ≡ one (withToken (wireAt t i))
+  carries m p = rw p (tokens-are (wireAt t i .to) (wireAt t i .message))
 
   -- so many names and tokens can be counted
   pub looked-times : (at : ℕ) → at < 16 → getD times at 0 ≤ 16 + i
@@ -133,12 +132,13 @@ module _ (t : Table) (standings : List Standing) (times : List ℕ) (held i : �
         prefix-low (inMessage at) (t .wires) (t .count) i,
       )
 
-  pub looked-tokens : (more : ℕ) → more ≡ one (withToken (wireAt t i)) → held + more ≤ 17 + i
+  pub looked-tokens : (m : Carried) → m ≡ carriedBy (wireAt t i .to) (wireAt t i .message) → held + m .tokens ≤ 17 + i
   unfolding tokensBy
-  looked-tokens more e =
+  looked-tokens m p =
       omega (
         arith,
         k .carried,
+        carries m p,
         fits,
         one-le (withToken (wireAt t i)),
         count-below-le (t .n) (λ c. roomAt t c .token),
@@ -154,17 +154,16 @@ module _ (t : Table) (standings : List Standing) (times : List ℕ) (held i : �
     unfolding wiresFine
     looked-ill h = ill-wires t (all-fails (wireTest t) 256 i turn (sym tested ∙ not-true b h))
 
-    module _ (h : not b ≡ false) where
+    module _ (h : not b ≡ false) (m : Carried) (p : m ≡ carriedBy (wireAt t i .to) (wireAt t i .message)) where
       fine : wireTest t i ≡ true
       fine = sym tested ∙ not-false b h
 
       blank : t .count ≤ i → isBlankWire (wireAt t i) ≡ true
       blank l = simp (le-ltb i (t .count) l) at fine
 
-      pub names-next : (at : ℕ) → at ≡ namedBy (wireAt t i .to) (wireAt t i .message)
-          → (c : ℕ) → c < 16 → namesBy t (i + 1) c ≡ namesBy t i c + one (eqb at c)
+      pub names-next : (c : ℕ) → c < 16 → namesBy t (i + 1) c ≡ namesBy t i c + one (eqb (m .room) c)
       unfolding namesBy
-      names-next at p c l =
+      names-next c l =
           omega (
             arith,
             prefix-next
@@ -174,20 +173,21 @@ module _ (t : Table) (standings : List Standing) (times : List ℕ) (held i : �
                 noWire
                 i
                 (omega arith)
-                (eqb at c)
+                (eqb (m .room) c)
                 (λ u. hit)
                 (λ u. hit ∙ blank-name (wireAt t i) (blank u) c),
           )
         where
-          hit : eqb at c ≡ inMessage c (wireAt t i)
+          hit : eqb (m .room) c ≡ inMessage c (wireAt t i)
           hit = rw p (sym (named-is c l (wireAt t i .to) (wireAt t i .message)))
 
-      tokens-next : held + one (withToken (wireAt t i)) ≡ tokensBy t (i + 1)
+      tokens-next : held + m .tokens ≡ tokensBy t (i + 1)
       unfolding tokensBy
       tokens-next =
           omega (
             arith,
             k .carried,
+            carries m p,
             prefix-next
                 withToken
                 (t .wires)
@@ -200,9 +200,8 @@ module _ (t : Table) (standings : List Standing) (times : List ℕ) (held i : �
                 (λ u. blank-token (wireAt t i) (blank u)),
           )
 
-      pub looked-next : (more : ℕ) → more ≡ one (withToken (wireAt t i)) → (after : List ℕ) → Counted after (namesBy t (i + 1))
-          → Looked t standings after (held + more) (i + 1)
-      looked-next more p after a =
+      pub looked-next : (after : List ℕ) → Counted after (namesBy t (i + 1)) → Looked t standings after (held + m .tokens) (i + 1)
+      looked-next after a =
           record {
             long = k .long;
             sizes = k .sizes;
@@ -211,7 +210,7 @@ module _ (t : Table) (standings : List Standing) (times : List ℕ) (held i : �
             known = k .known;
             low = omega arith;
             wires = all-more (wireTest t) i (k .wires) fine;
-            carried = rw p tokens-next;
+            carried = tokens-next;
             named = a;
           }
 
@@ -231,7 +230,7 @@ module _ (t : Table) (standings : List Standing) (times : List ℕ) (held : ℕ)
   all-right =
       all-same
       (t .n)
-      (λ c. eqb (getD times c 0) (one (ltb 0 (getD standings c noStanding .due))))
+      (λ c. eqb (getD times c 0) (one (ltb 0 (standingAt standings c .due))))
       (λ c. eqb (names (queueOf t) (messagesOf t) c) (one (ltb 0 (due (roomAt t c)))))
       (λ c h. let l : c < 16 = omega (arith, fit-rooms (t .n) (t .queued) (t .count) (k .sizes)) in rw (all-names c l, k .known c l))
 

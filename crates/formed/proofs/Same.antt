@@ -1,20 +1,20 @@
 -- The tests of the queue and of the messages need no more of the rooms than their standings.
-use mathlib.Core.Path.{_≡_, refl, sym, _∙_, ap}
-use mathlib.Core.Bool.{Bool, true, false, not, _&&_, and-assoc, and-false, false≢true}
-use mathlib.Core.List.{List}
-use Prim.Native.Nat.{ℕ, _≤_, _<_}
+use mathlib.Core.Path.{_≡_, refl, sym}
+use mathlib.Core.Bool.{true, false, not, _&&_, and-assoc, and-false, false≢true}
+use Prim.Native.Nat.{ℕ, _<_}
 use native.Mathlib.Omega.{arith}
 use lib.Dec.{ltb, eqb}
 use borrow.Author.Tests.{ltb-true, ne-eqb}
 use Rattle.base.specs.Choice.{split}
 use Rattle.base.specs.Tests.{and-right}
+use Rattle.base.specs.Sums.{one}
 use Rattle.room.specs.declared.Room.{Room}
 use Rattle.table.specs.declared.Queued.{Queued}
 use Rattle.table.specs.declared.Wire.{Wire}
 use Rattle.table.specs.declared.Message.{Message}
 use Rattle.table.specs.declared.Message.the-variants as msg
-use Rattle.table.specs.Formed.{due, isMode, isCode, queuedFine, messageFine, namesRightly, wireFine, isNothing, isBlankWire, isToken, isNamedIn}
-use Rattle.formed.specs.Names.{namedBy}
+use Rattle.table.specs.Formed.{due, queuedFine, messageFine, namesRightly, wireFine, isNothing, isBlankWire, isToken, isNamedIn}
+use Rattle.formed.specs.Names.{carriedBy}
 
 -- two ways to tell the rooms, the same in the standings of the first n
 module _ (n : ℕ) (f g : ℕ → Room) (dues : (c : ℕ) → c < n → due (f c) ≡ due (g c)) where
@@ -42,14 +42,22 @@ module _ (n : ℕ) (f g : ℕ → Room) (dues : (c : ℕ) → c < n → due (f c
         ))
         (λ e. simp (e, and-false))
 
--- a message names the room that the code finds
-pub named-is : (c : ℕ) → c < 16 → (to : ℕ) (m : Message) → isNamedIn c to m ≡ eqb (namedBy to m) c
-unfolding isNamedIn namedBy
+-- a message names the room that is found in it, and carries as many tokens
+pub named-is : (c : ℕ) → c < 16 → (to : ℕ) (m : Message) → isNamedIn c to m ≡ eqb (carriedBy to m .room) c
+unfolding isNamedIn carriedBy
 named-is c h to msg.Nothing = sym (ne-eqb 16 c (omega arith))
 named-is c h to (msg.Request o m idle) = refl
 named-is c h to (msg.Grant m l) = refl
 named-is c h to (msg.Token m rest l) = refl
 named-is c h to (msg.Reduce l m) = sym (ne-eqb 16 c (omega arith))
+
+pub tokens-are : (to : ℕ) (m : Message) → carriedBy to m .tokens ≡ one (isToken m)
+unfolding isToken carriedBy
+tokens-are to msg.Nothing = refl
+tokens-are to (msg.Request o m idle) = refl
+tokens-are to (msg.Grant m l) = refl
+tokens-are to (msg.Token m rest l) = refl
+tokens-are to (msg.Reduce l m) = refl
 
 -- a blank wire carries no token and names nobody
 no-token : (m : Message) → isNothing m ≡ true → isToken m ≡ false

@@ -18,8 +18,9 @@ use Rattle.table.specs.Tables.{noQueued}
 use Rattle.table.specs.Formed.{queuedFine, isBlankQueued, wireFine, isBlankWire}
 use Rattle.formed.specs.declared.rooms.Standing.{Standing}
 use Rattle.formed.specs.declared.queue.Named.{Named}
+use Rattle.formed.specs.declared.wires.Carried.{Carried}
 use Rattle.formed.specs.Listed.{listed}
-use Rattle.formed.specs.Seen.{noStanding, roomsOf}
+use Rattle.formed.specs.Seen.{standingAt, roomsOf}
 
 -- a place of the queue, and a wire: as it should be where it is in use, else blank
 unfoldable pub queuePlaceFine : ℕ → List Standing → Bool → Queued → Bool
@@ -28,21 +29,21 @@ queuePlaceFine n rooms used q = if used then queuedFine n (roomsOf rooms) q else
 unfoldable pub wirePlaceFine : ℕ → List Standing → Bool → Wire → Bool
 wirePlaceFine n rooms used w = if used then wireFine n (roomsOf rooms) w else isBlankWire w
 
--- what an array of places says, of which the first `queued` are in use: how often each room is named
+-- how often an array of places, of which the first `queued` are in use, names each room; where one is not fine, no more than that
 unfoldable pub namedIn : ℕ → List Standing → List Queued → ℕ → Named
 namedIn n rooms queue queued =
     if allBelow queueLimit (λ i. queuePlaceFine n rooms (ltb i queued) (getD queue i noQueued))
     then record { fine = true; times = listed roomLimit (λ c. count (λ q. eqb (q .room) c) (take queued queue)) }
     else record { fine = false; times = replicate roomLimit 0 }
 
--- the room that a message to this room names; where it names none, the limit, which no room's number reaches
-unfoldable pub namedBy : ℕ → Message → ℕ
-namedBy to msg.Nothing = roomLimit
-namedBy to (msg.Request o m idle) = o
-namedBy to (msg.Grant m l) = to
-namedBy to (msg.Token m rest l) = to
-namedBy to (msg.Reduce l m) = roomLimit
+-- the room that a message to this room names, the limit, which no room has, where it names none, and the tokens that it carries
+unfoldable pub carriedBy : ℕ → Message → Carried
+carriedBy to msg.Nothing = record { room = roomLimit; tokens = 0 }
+carriedBy to (msg.Request o m idle) = record { room = o; tokens = 0 }
+carriedBy to (msg.Grant m l) = record { room = to; tokens = 0 }
+carriedBy to (msg.Token m rest l) = record { room = to; tokens = 1 }
+carriedBy to (msg.Reduce l m) = record { room = roomLimit; tokens = 0 }
 
 -- each of n rooms is named once if it waits, else never
 unfoldable pub timesFine : ℕ → List Standing → List ℕ → Bool
-timesFine n rooms times = allBelow n (λ c. eqb (getD times c 0) (one (ltb 0 (getD rooms c noStanding .due))))
+timesFine n rooms times = allBelow n (λ c. eqb (getD times c 0) (one (ltb 0 (standingAt rooms c .due))))

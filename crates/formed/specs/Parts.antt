@@ -18,22 +18,23 @@ use Rattle.table.specs.Formed.{isCode, entryFine, roomFine, isBlankRoom}
 unfoldable pub isGranted : ℕ → Bool
 isGranted m = eqb m IR || eqb m R || eqb m IW
 
--- the held and the wanted mode
+-- what `roomFine` says of the held and the wanted mode
 unfoldable pub holdsRightly : ℕ → ℕ → Bool → Bool
 holdsRightly held wanted token =
     isCode held && isCode wanted && ((eqb held U || eqb held W) implies token)
     && (eqb held 0 || eqb wanted 0 || eqb held U && eqb wanted W)
 
--- the lender, the credit and the link number of room c of n
+-- what it says of the lender, the credit and the link number
 unfoldable pub owesRightly : ℕ → ℕ → Room → Bool
 owesRightly n c r =
     isCode (r .credit) && (eqb (r .lender) nobody || ltb (r .lender) n) && not (eqb (r .lender) c)
     && (eqb (r .lender) nobody implies eqb (r .link) 0) && Bool·beq (eqb (r .lender) nobody) (eqb (r .credit) 0)
     && (r .token implies eqb (r .lender) nobody)
 
+-- what it says of the entries
 unfoldable pub entriesFine : ℕ → ℕ → List Entry → Bool
 entriesFine n c entries = allBelow roomLimit (λ j. entryFine n c j (getD entries j noEntry))
 
 -- the record at place c of the array: as it should be where the place is in use, else blank
-unfoldable pub placeFine : ℕ → ℕ → Room → Bool
-placeFine n c r = if ltb c n then roomFine n c r else isBlankRoom r
+unfoldable pub roomPlaceFine : ℕ → ℕ → Room → Bool
+roomPlaceFine n c r = if ltb c n then roomFine n c r else isBlankRoom r

@@ -1,4 +1,4 @@
-// Whether a table is well formed. Each room, each place of the queue and each wire is looked at once.
+// The test of well-formedness. Each room, each place of the queue and each wire is looked at once.
 ghost use mathlib.Core.Path.{_≡_};
 ghost use Prim.Native.Nat.{_≤_};
 ghost use lib.Dec.{ltb};
@@ -7,9 +7,9 @@ ghost use Rattle.room.specs.Limits.{roomLimit};
 ghost use Rattle.table.specs.Formed.{wellFormed};
 ghost use Rattle.formed.specs.Names.{timesFine};
 
+mod queue; // queue.rt: the places of the queue
 mod ranges; // ranges.rt: codes and sizes in range
 mod rooms; // rooms.rt: the rooms' records
-mod queue; // queue.rt: the places of the queue
 mod wires; // wires.rt: the messages
 
 use room::ROOMS;
@@ -17,7 +17,7 @@ use rooms::Standing;
 use table::Table;
 use table::WIRES;
 
-// How often a room that waits for this mode is to be named.
+// How often a room is to be named that waits for this mode.
 fn times_due(due: u8) -> usize
     ensures { λ k. ⌜ k ≡ one (ltb 0 due) ⌝ }
 {
@@ -43,6 +43,7 @@ fn times_fine(n: u8, rooms: [Standing; ROOMS], times: [usize; ROOMS]) -> bool
     true
 }
 
+// Whether a table is well formed: its rooms, its queue and its wires are looked over in turn, and last what they named and carried.
 pub fn well_formed(t: Table) -> bool
     ensures { λ b. ⌜ b ≡ wellFormed t ⌝ }
 {
@@ -71,11 +72,12 @@ pub fn well_formed(t: Table) -> bool
         if !wires::wire_fine(n, standings, i < count, w) {
             return false;
         }
-        let at = wires::named_by(w);
+        let carried = wires::carried_by(w);
+        let at = carried.room;
         if at < ROOMS {
             times[at] += 1;
         }
-        tokens += wires::tokens_in(w);
+        tokens += carried.tokens;
         i += 1;
     }
     tokens == 1 && times_fine(n, standings, times)

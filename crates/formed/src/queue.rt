@@ -1,7 +1,5 @@
 // The places of the queue: each names a waiting room, or is blank.
 ghost use mathlib.Core.Path.{_≡_};
-ghost use Rattle.base.specs.Choice.{if_then_else_};
-ghost use Rattle.room.specs.Limits.{roomLimit};
 ghost use Rattle.formed.specs.Names.{queuePlaceFine, namedIn};
 use super::ranges::is_mode;
 use super::rooms::Standing;
@@ -34,16 +32,6 @@ fn place_fine(n: u8, rooms: [Standing; ROOMS], used: bool, q: Queued) -> bool
     room.due == q.mode
 }
 
-// The room that a place names, and ROOMS for none.
-fn named_by(used: bool, q: Queued) -> usize
-    ensures { λ r. ⌜ r ≡ (if used then q .room else roomLimit) ⌝ }
-{
-    if used {
-        return q.room as usize;
-    }
-    ROOMS
-}
-
 // All the places, of which the first `queued` are in use.
 pub fn look_over(n: u8, rooms: [Standing; ROOMS], queue: [Queued; QUEUE], queued: usize) -> Named
     ensures { λ r. ⌜ r ≡ namedIn n rooms queue queued ⌝ }
@@ -59,8 +47,8 @@ pub fn look_over(n: u8, rooms: [Standing; ROOMS], queue: [Queued; QUEUE], queued
                 times: none,
             };
         }
-        let at = named_by(i < queued, q);
-        if at < ROOMS {
+        if i < queued {
+            let at = q.room as usize;
             times[at] += 1;
         }
         i += 1;

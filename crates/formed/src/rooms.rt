@@ -1,9 +1,8 @@
 // The rooms' records: each as it should be, or blank, and what is seen of them.
 ghost use mathlib.Core.Path.{_≡_};
-ghost use lib.ListN.{getD};
 ghost use Rattle.table.specs.Formed.{entryFine, isBlankRoom};
-ghost use Rattle.formed.specs.Parts.{holdsRightly, owesRightly, entriesFine, placeFine};
-ghost use Rattle.formed.specs.Seen.{noStanding, standing, seenIn};
+ghost use Rattle.formed.specs.Parts.{holdsRightly, owesRightly, entriesFine, roomPlaceFine};
+ghost use Rattle.formed.specs.Seen.{standing, standingAt, seenIn};
 use super::ranges::is_code;
 use modes::IR;
 use modes::IW;
@@ -29,7 +28,7 @@ pub struct Seen {
     pub rooms: [Standing; ROOMS],
 }
 
-// The entry for room j in the record of room c of n.
+// Whether an entry for room j can stand in the record of room c of n.
 fn entry_fine(n: u8, c: u8, j: u8, e: Entry) -> bool
     ensures { λ b. ⌜ b ≡ entryFine n c j e ⌝ }
 {
@@ -41,7 +40,7 @@ fn entry_fine(n: u8, c: u8, j: u8, e: Entry) -> bool
     }
 }
 
-// The entries of room c of n. With n = 0 they are all none.
+// The entries of room c of n. Where n is 0 they must all be none.
 fn entries_fine(n: u8, c: u8, entries: [Entry; ROOMS]) -> bool
     ensures { λ b. ⌜ b ≡ entriesFine n c entries ⌝ }
 {
@@ -56,7 +55,7 @@ fn entries_fine(n: u8, c: u8, entries: [Entry; ROOMS]) -> bool
     true
 }
 
-// A room's held and wanted modes, with or without the token.
+// A room's held and wanted modes: U and W are held only with the token, and W alone may be wanted beside U.
 fn holds_rightly(held: u8, wanted: u8, token: bool) -> bool
     ensures { λ b. ⌜ b ≡ holdsRightly held wanted token ⌝ }
 {
@@ -70,7 +69,7 @@ fn holds_rightly(held: u8, wanted: u8, token: bool) -> bool
     }
 }
 
-// The lender, credit and link number of room c of n.
+// The lender, the credit and the link number of room c of n. A lender below n is not NOBODY.
 fn owes_rightly(n: u8, c: u8, r: Room) -> bool
     ensures { λ b. ⌜ b ≡ owesRightly n c r ⌝ }
 {
@@ -119,7 +118,7 @@ fn room_blank(r: Room) -> bool
 
 // The record at place c: as it should be where the place is one of n in use, else blank.
 fn room_fine(n: u8, c: u8, r: Room) -> bool
-    ensures { λ b. ⌜ b ≡ placeFine n c r ⌝ }
+    ensures { λ b. ⌜ b ≡ roomPlaceFine n c r ⌝ }
 {
     if c >= n {
         return room_blank(r);
@@ -140,7 +139,7 @@ fn room_fine(n: u8, c: u8, r: Room) -> bool
     entries_fine(n, c, entries)
 }
 
-// What the queue and the messages are tested against.
+// A room's standing: with a held mode it waits for nothing, but perhaps for an upgrade, which nobody names.
 fn standing_of(r: Room) -> Standing
     ensures { λ s. ⌜ s ≡ standing r ⌝ }
 {
@@ -190,9 +189,9 @@ pub fn look_over(n: u8, rooms: [Room; ROOMS]) -> Seen
     }
 }
 
-// The standing of room c, none where there is no such room.
+// The standing of room c; none where there is no such room.
 pub fn standing_at(rooms: [Standing; ROOMS], c: u8) -> Standing
-    ensures { λ s. ⌜ s ≡ getD rooms c noStanding ⌝ }
+    ensures { λ s. ⌜ s ≡ standingAt rooms c ⌝ }
 {
     let at = c as usize;
     if at < ROOMS {

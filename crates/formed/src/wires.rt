@@ -1,9 +1,8 @@
 // The messages: what each holds and names, and wires that are blank.
 ghost use mathlib.Core.Path.{_≡_};
-ghost use Rattle.base.specs.Sums.{one};
-ghost use Rattle.table.specs.Formed.{messageFine, namesRightly, isBlankWire, isToken};
+ghost use Rattle.table.specs.Formed.{messageFine, namesRightly, isBlankWire};
 ghost use Rattle.formed.specs.Seen.{roomsOf};
-ghost use Rattle.formed.specs.Names.{wirePlaceFine, namedBy};
+ghost use Rattle.formed.specs.Names.{wirePlaceFine, carriedBy};
 use super::ranges::is_code;
 use super::ranges::is_granted;
 use super::ranges::is_mode;
@@ -12,6 +11,12 @@ use super::rooms::standing_at;
 use room::ROOMS;
 use table::Message;
 use table::Wire;
+
+// The room that a message names, ROOMS for none, and how many tokens the message carries.
+pub struct Carried {
+    pub room: usize,
+    pub tokens: usize,
+}
 
 // The codes and the room number in a message.
 fn message_fine(n: u8, message: Message) -> bool
@@ -26,7 +31,7 @@ fn message_fine(n: u8, message: Message) -> bool
     }
 }
 
-// A room that a message to this room names waits for the message's mode.
+// Whether a message to room `to` names a room that waits for its mode, and is no GRANT to the room with the token.
 fn names_rightly(rooms: [Standing; ROOMS], to: u8, message: Message) -> bool
     ensures { λ b. ⌜ b ≡ namesRightly (roomsOf rooms) to message ⌝ }
 {
@@ -77,30 +82,31 @@ pub fn wire_fine(n: u8, rooms: [Standing; ROOMS], used: bool, w: Wire) -> bool
     names_rightly(rooms, w.to, message)
 }
 
-// The room that a message names, and ROOMS for none.
-pub fn named_by(w: Wire) -> usize
-    ensures { λ r. ⌜ r ≡ namedBy (w .to) (w .message) ⌝ }
+// The room that a message names and the tokens that it carries.
+pub fn carried_by(w: Wire) -> Carried
+    ensures { λ r. ⌜ r ≡ carriedBy (w .to) (w .message) ⌝ }
 {
     let message = w.message;
     match message {
-        Message::Nothing => ROOMS,
-        Message::Request { origin, .. } => origin as usize,
-        Message::Grant { .. } => w.to as usize,
-        Message::Token { .. } => w.to as usize,
-        Message::Reduce { .. } => ROOMS,
-    }
-}
-
-// How many tokens a message carries.
-pub fn tokens_in(w: Wire) -> usize
-    ensures { λ r. ⌜ r ≡ one (isToken (w .message)) ⌝ }
-{
-    let message = w.message;
-    match message {
-        Message::Nothing => 0,
-        Message::Request { .. } => 0,
-        Message::Grant { .. } => 0,
-        Message::Token { .. } => 1,
-        Message::Reduce { .. } => 0,
+        Message::Nothing => Carried {
+            room: ROOMS,
+            tokens: 0,
+        },
+        Message::Request { origin, .. } => Carried {
+            room: origin as usize,
+            tokens: 0,
+        },
+        Message::Grant { .. } => Carried {
+            room: w.to as usize,
+            tokens: 0,
+        },
+        Message::Token { .. } => Carried {
+            room: w.to as usize,
+            tokens: 1,
+        },
+        Message::Reduce { .. } => Carried {
+            room: ROOMS,
+            tokens: 0,
+        },
     }
 }

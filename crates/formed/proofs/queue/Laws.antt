@@ -1,15 +1,14 @@
 -- A law for each branch of the test of the queue's places, over plain values.
-use mathlib.Core.Path.{_≡_, refl, sym, _∙_}
+use mathlib.Core.Path.{_≡_, sym, _∙_}
 use mathlib.Core.Bool.{Bool, true, false, not, and-false}
 use mathlib.Core.List.{List}
 use Prim.Native.Nat.{ℕ, _≤_, _<_}
-use lib.ListN.{getD}
 use lib.Dec.{eqb}
-use borrow.Author.Tests.{lt-ltb, le-ltb, eq-eqb, ne-eqb, not-true, not-false}
+use borrow.Author.Tests.{lt-ltb, le-ltb, ne-eqb, not-true, not-false}
 use Rattle.table.specs.declared.Queued.{Queued}
 use Rattle.table.specs.Formed.{isMode, due, queuedFine, isBlankQueued}
 use Rattle.formed.specs.declared.rooms.Standing.{Standing}
-use Rattle.formed.specs.Seen.{noStanding}
+use Rattle.formed.specs.Seen.{standingAt}
 use Rattle.formed.specs.Names.{queuePlaceFine}
 
 module _ (n : ℕ) (rooms : List Standing) (used : Bool) (q : Queued) where
@@ -34,7 +33,7 @@ module _ (n : ℕ) (rooms : List Standing) (used : Bool) (q : Queued) where
       unfolding queuePlaceFine queuedFine
       place-none k = simp (not-false used h, sym e ∙ not-true b k, and-false)
 
-      pub place-due : q .room < n → not b ≡ false → (s : Standing) → s ≡ getD rooms (q .room) noStanding
+      pub place-due : q .room < n → not b ≡ false → (s : Standing) → s ≡ standingAt rooms (q .room)
           → eqb (s .due) (q .mode) ≡ queuePlaceFine n rooms used q
       unfolding queuePlaceFine queuedFine due
       place-due k l s p = simp (not-false used h, lt-ltb (q .room) n k, sym e ∙ not-false b l, p)

@@ -1,22 +1,25 @@
 -- What the loop over the queue's places gathers: how often each room is named.
 use mathlib.Core.Path.{_≡_, refl, sym, _∙_}
-use mathlib.Core.Bool.{Bool, true, false}
+use mathlib.Core.Logic.{_⊎_, inl, inr}
+use mathlib.Core.Bool.{true, false, _&&_}
 use mathlib.Core.List.{List}
 use Prim.Native.Nat.{ℕ, _+_, _≤_, _<_}
 use native.Mathlib.Omega.{arith}
 use lib.ListN.{length, getD, take, replicate, getD-replicate}
-use lib.Dec.{ltb, eqb}
-use borrow.Author.Tests.{lt-ltb, le-ltb, ne-eqb}
-use Rattle.base.specs.Choice.{if_then_else_}
+use lib.Dec.{ltb, leb, eqb}
+use borrow.Author.Tests.{leb-true, eqb-true, lt-ltb, ne-eqb}
+use Rattle.base.specs.Tests.{and-left, and-right}
 use Rattle.base.specs.Below.{allBelow, all-fails}
-use Rattle.base.specs.Sums.{one}
+use Rattle.base.specs.Sums.{one, below?}
 use Rattle.base.specs.Lists.{count, total-none}
 use Rattle.table.specs.declared.Queued.{Queued}
 use Rattle.table.specs.Tables.{noQueued}
+use Rattle.table.specs.Formed.{isMode, due, queuedFine}
 use Rattle.formed.specs.declared.rooms.Standing.{Standing}
-use Rattle.formed.specs.declared.queue.Named.{Named}
+use Rattle.formed.specs.Seen.{standingAt, roomsOf}
 use Rattle.formed.specs.Names.{queuePlaceFine, namedIn}
 use Rattle.formed.proofs.Lists.{listed-is, prefix-low, prefix-all, prefix-next}
+use Rattle.formed.proofs.rooms.Laws.{standing-past}
 use Rattle.formed.proofs.Counted.{Counted}
 
 -- how many of the first i places, of those in use, name the room c
@@ -33,20 +36,27 @@ module _ (queue : List Queued) (queued : ℕ) where
   unfolding placesNaming
   naming-low i c = prefix-low (λ q. eqb (q .room) c) queue queued i
 
-  pub naming-next : (i : ℕ) → i < length queue → (at : ℕ) → at ≡ (if ltb i queued then getD queue i noQueued .room else 16)
-      → (c : ℕ) → c < 16 → placesNaming queue queued (i + 1) c ≡ placesNaming queue queued i c + one (eqb at c)
-  unfolding placesNaming
-  naming-next i h at e c l =
-      prefix-next
-      (λ q. eqb (q .room) c)
-      queue
-      queued
-      noQueued
-      i
-      h
-      (eqb at c)
-      (λ k. rw e (simp (lt-ltb i queued k)))
-      (λ k. rw e (simp (le-ltb i queued k, ne-eqb 16 c (omega arith))))
+  -- one place more: it names its room, where it is in use
+  module _ (i : ℕ) (h : i < length queue) where
+    pub naming-used : i < queued → (c : ℕ) → c < 16
+        → placesNaming queue queued (i + 1) c ≡ placesNaming queue queued i c + one (eqb (getD queue i noQueued .room) c)
+    unfolding placesNaming
+    naming-used k c l =
+        prefix-next (λ q. eqb (q .room) c) queue queued noQueued i h (eqb (getD queue i noQueued .room) c) (λ u. refl) (λ u. absurd (omega arith))
+
+    pub naming-unused : queued ≤ i → (c : ℕ) → c < 16 → placesNaming queue queued (i + 1) c ≡ placesNaming queue queued i c + one (eqb 16 c)
+    unfolding placesNaming
+    naming-unused k c l =
+        prefix-next
+        (λ q. eqb (q .room) c)
+        queue
+        queued
+        noQueued
+        i
+        h
+        (eqb 16 c)
+        (λ u. absurd (omega arith))
+        (λ u. ne-eqb 16 c (omega arith))
 
 module _ (n : ℕ) (rooms : List Standing) (queue : List Queued) (queued : ℕ) where
   pub named-ill : (i : ℕ) → i < 16 → queuePlaceFine n rooms (ltb i queued) (getD queue i noQueued) ≡ false
@@ -68,3 +78,26 @@ module _ (n : ℕ) (rooms : List Standing) (queue : List Queued) (queued : ℕ) 
             (k .long)
             (λ c h. k .at c h ∙ prefix-all (λ q. eqb (q .room) c) queue queued 16 (omega arith)),
       )
+
+  -- a place that is fine and in use names a room that waits, and so one of the sixteen
+  due-is : (q : Queued) → queuedFine n (roomsOf rooms) q ≡ true → (isMode (q .mode) ≡ true) × (eqb (standingAt rooms (q .room) .due) (q .mode) ≡ true)
+  unfolding queuedFine due
+  due-is q f =
+      let test = eqb (standingAt rooms (q .room) .due) (q .mode) in (
+        and-right (ltb (q .room) n) (isMode (q .mode)) (and-left (ltb (q .room) n && isMode (q .mode)) test f),
+        and-right (ltb (q .room) n && isMode (q .mode)) test f,
+      )
+
+  pub names-low : length rooms ≡ 16 → (i : ℕ) → i < queued → queuePlaceFine n rooms (ltb i queued) (getD queue i noQueued) ≡ true
+      → getD queue i noQueued .room < 16
+  unfolding queuePlaceFine
+  names-low long i h f = go (below? (q .room) 16) (due-is q (simp (lt-ltb i queued h) at f))
+    where
+      q : Queued
+      q = getD queue i noQueued
+
+      go : (q .room < 16) ⊎ (16 ≤ q .room) → (isMode (q .mode) ≡ true) × (eqb (standingAt rooms (q .room) .due) (q .mode) ≡ true) → q .room < 16
+      go (inl l) w = l
+      go (inr l) w =
+          let e : eqb 0 (q .mode) ≡ true = rw (← standing-past rooms (q .room) long l) at (w .1) in
+          absurd (omega (arith, leb-true 1 (q .mode) (and-left (leb 1 (q .mode)) (leb (q .mode) 5) (w .0)), eqb-true 0 (q .mode) e))

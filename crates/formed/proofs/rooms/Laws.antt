@@ -5,7 +5,7 @@ use mathlib.Core.List.{List}
 use Prim.Native.Nat.{ℕ, _≤_, _<_}
 use native.Mathlib.Omega.{arith}
 use lib.ListN.{length, getD, List·getD-eq-default}
-use lib.Dec.{leb, ltb, eqb}
+use lib.Dec.{ltb, eqb}
 use borrow.Author.Tests.{le-leb, lt-leb, lt-ltb, le-ltb, eq-eqb, ne-eqb, eqb-true, not-true, not-false}
 use Rattle.base.specs.Choice.{split}
 use Rattle.base.specs.Tests.{_implies_}
@@ -17,8 +17,8 @@ use Rattle.room.specs.Limits.{roomLimit, nobody}
 use Rattle.room.specs.Record.{noEntry, entryAt}
 use Rattle.table.specs.Formed.{isCode, entryFine, isBlankEntry, roomFine, isBlankRoom, due}
 use Rattle.formed.specs.declared.rooms.Standing.{Standing}
-use Rattle.formed.specs.Parts.{holdsRightly, owesRightly, entriesFine, placeFine}
-use Rattle.formed.specs.Seen.{noStanding, standing}
+use Rattle.formed.specs.Parts.{holdsRightly, owesRightly, entriesFine, roomPlaceFine}
+use Rattle.formed.specs.Seen.{noStanding, standing, standingAt}
 use Rattle.formed.proofs.Lists.{all-same}
 
 pub implies-true : (a : Bool) → (a implies true) ≡ true
@@ -159,59 +159,55 @@ module _ (r : Room) where
   unfolding standing due
   standing-held h = simp (ne-eqb (r .held) 0 h)
 
--- the tests of a record, put together by subject
+-- the tests of a record, in the order of `roomFine` and put together by subject
 module _ (a b d e f g h i j k l m z : Bool) where
   by-subject : (a && b && d && e && f && g && h && i && j && k && l && m && z) ≡ (e && g && (a && b && l && m) && (d && f && h && i && j && k) && z)
   by-subject = simp (and-assoc, and-comm, and-swap)
 
+-- the record at a place
 module _ (n c : ℕ) (r : Room) where
-  room-parts : roomFine n c r
-      ≡ (ltb (r .toward) n && Bool·beq (eqb (r .toward) c) (r .token) && holdsRightly (r .held) (r .wanted) (r .token) && owesRightly n c r
-      && entriesFine n c (r .entries))
-  unfolding roomFine holdsRightly owesRightly entriesFine
-  room-parts =
-      by-subject
-      (isCode (r .held))
-      (isCode (r .wanted))
-      (isCode (r .credit))
-      (ltb (r .toward) n)
-      (eqb (r .lender) nobody || ltb (r .lender) n)
-      (Bool·beq (eqb (r .toward) c) (r .token))
-      (not (eqb (r .lender) c))
-      (eqb (r .lender) nobody implies eqb (r .link) 0)
-      (Bool·beq (eqb (r .lender) nobody) (eqb (r .credit) 0))
-      (r .token implies eqb (r .lender) nobody)
-      ((eqb (r .held) U || eqb (r .held) W) implies r .token)
-      (eqb (r .held) 0 || eqb (r .wanted) 0 || eqb (r .held) U && eqb (r .wanted) W)
-      (allBelow roomLimit (λ j. entryFine n c j (entryAt r j)))
-
-  pub room-past : n ≤ c → (b : Bool) → b ≡ isBlankRoom r → b ≡ placeFine n c r
-  unfolding placeFine
+  pub room-past : n ≤ c → (b : Bool) → b ≡ isBlankRoom r → b ≡ roomPlaceFine n c r
+  unfolding roomPlaceFine
   room-past h b e = simp (le-ltb c n h) e
 
   module _ (low : c < n) where
-    parts : placeFine n c r
+    parts : roomPlaceFine n c r
         ≡ (ltb (r .toward) n && Bool·beq (eqb (r .toward) c) (r .token) && holdsRightly (r .held) (r .wanted) (r .token) && owesRightly n c r
         && entriesFine n c (r .entries))
-    unfolding placeFine
-    parts = simp (lt-ltb c n low) room-parts
+    unfolding roomPlaceFine roomFine holdsRightly owesRightly entriesFine
+    parts =
+        simp (lt-ltb c n low)
+        (by-subject
+        (isCode (r .held))
+        (isCode (r .wanted))
+        (isCode (r .credit))
+        (ltb (r .toward) n)
+        (eqb (r .lender) nobody || ltb (r .lender) n)
+        (Bool·beq (eqb (r .toward) c) (r .token))
+        (not (eqb (r .lender) c))
+        (eqb (r .lender) nobody implies eqb (r .link) 0)
+        (Bool·beq (eqb (r .lender) nobody) (eqb (r .credit) 0))
+        (r .token implies eqb (r .lender) nobody)
+        ((eqb (r .held) U || eqb (r .held) W) implies r .token)
+        (eqb (r .held) 0 || eqb (r .wanted) 0 || eqb (r .held) U && eqb (r .wanted) W)
+        (allBelow roomLimit (λ j. entryFine n c j (entryAt r j))))
 
-    pub room-toward : n ≤ r .toward → false ≡ placeFine n c r
+    pub room-toward : n ≤ r .toward → false ≡ roomPlaceFine n c r
     room-toward h = rw parts (simp (le-ltb (r .toward) n h))
 
-    pub room-token : not (Bool·beq (eqb (r .toward) c) (r .token)) ≡ true → false ≡ placeFine n c r
+    pub room-token : not (Bool·beq (eqb (r .toward) c) (r .token)) ≡ true → false ≡ roomPlaceFine n c r
     room-token h = rw parts (simp (not-true (Bool·beq (eqb (r .toward) c) (r .token)) h, and-false))
 
     module _ (h : Bool) (holds : h ≡ holdsRightly (r .held) (r .wanted) (r .token)) where
-      pub room-holds : not h ≡ true → false ≡ placeFine n c r
+      pub room-holds : not h ≡ true → false ≡ roomPlaceFine n c r
       room-holds p = rw parts (simp (sym holds ∙ not-true h p, and-false))
 
       module _ (o : Bool) (owes : o ≡ owesRightly n c r) where
-        pub room-owes : not o ≡ true → false ≡ placeFine n c r
+        pub room-owes : not o ≡ true → false ≡ roomPlaceFine n c r
         room-owes p = rw parts (simp (sym owes ∙ not-true o p, and-false))
 
         pub room-entries : r .toward < n → not (Bool·beq (eqb (r .toward) c) (r .token)) ≡ false → not h ≡ false → not o ≡ false
-            → (b : Bool) → b ≡ entriesFine n c (r .entries) → b ≡ placeFine n c r
+            → (b : Bool) → b ≡ entriesFine n c (r .entries) → b ≡ roomPlaceFine n c r
         room-entries t k p q b e =
             rw parts
             (simp
@@ -259,5 +255,6 @@ module _ (r : Room) where
       simp (h, w, t, o, l, k, i, u)
       (e ∙ all-same 16 (λ j. entryFine 0 0 j (entryAt r j)) (λ j. isBlankEntry (entryAt r j)) (λ j q. blank-entry j (entryAt r j)))
 
-pub standing-past : (rooms : List Standing) (c : ℕ) → length rooms ≡ 16 → 16 ≤ c → noStanding ≡ getD rooms c noStanding
+-- past the array there is no standing
+pub standing-past : (rooms : List Standing) (c : ℕ) → length rooms ≡ 16 → 16 ≤ c → noStanding ≡ standingAt rooms c
 standing-past rooms c e h = sym (List·getD-eq-default rooms noStanding (rw e h))

@@ -1,21 +1,19 @@
 -- What the loop over the rooms gathers: tokens and standings, place by place.
-use mathlib.Core.Path.{_≡_, refl, sym, _∙_}
+use mathlib.Core.Path.{_≡_, refl, _∙_}
 use mathlib.Core.Logic.{_⊎_, inl, inr}
-use mathlib.Core.Bool.{Bool, true, false}
+use mathlib.Core.Bool.{true, false}
 use mathlib.Core.List.{List}
 use Prim.Native.Nat.{ℕ, _+_, _<_}
 use native.Mathlib.Nat.{not-suc-le-zero}
 use native.Mathlib.Omega.{arith}
 use lib.ListN.{length, getD, set, replicate, length-set}
 use lib.Seq.{getD-set-same, getD-set-other}
-use Rattle.base.specs.Choice.{if_then_else_}
 use Rattle.base.specs.Below.{allBelow, all-fails}
 use Rattle.base.specs.Sums.{countBelow, same?}
 use Rattle.room.specs.declared.Room.{Room}
 use Rattle.room.specs.Record.{noRoom}
 use Rattle.formed.specs.declared.rooms.Standing.{Standing}
-use Rattle.formed.specs.declared.rooms.Seen.{Seen}
-use Rattle.formed.specs.Parts.{placeFine}
+use Rattle.formed.specs.Parts.{roomPlaceFine}
 use Rattle.formed.specs.Seen.{noStanding, standing, seenIn}
 use Rattle.formed.proofs.Lists.{listed-is}
 
@@ -37,12 +35,12 @@ module _ (rooms : List Room) where
       go k l (inr p) = getD-set-other standings c k s noStanding p ∙ f .low k (omega arith)
 
 module _ (n : ℕ) (rooms : List Room) where
-  pub seen-ill : (c : ℕ) → c < 16 → placeFine n c (getD rooms c noRoom) ≡ false
+  pub seen-ill : (c : ℕ) → c < 16 → roomPlaceFine n c (getD rooms c noRoom) ≡ false
       → record { fine = false; tokens = 0; rooms = replicate 16 noStanding } ≡ seenIn n rooms
   unfolding seenIn
-  seen-ill c h e = rw (all-fails (λ c. placeFine n c (getD rooms c noRoom)) 16 c h e)
+  seen-ill c h e = rw (all-fails (λ c. roomPlaceFine n c (getD rooms c noRoom)) 16 c h e)
 
-  pub seen-all : allBelow 16 (λ c. placeFine n c (getD rooms c noRoom)) ≡ true → (k : ℕ) → k ≡ countBelow 16 (λ c. getD rooms c noRoom .token)
+  pub seen-all : allBelow 16 (λ c. roomPlaceFine n c (getD rooms c noRoom)) ≡ true → (k : ℕ) → k ≡ countBelow 16 (λ c. getD rooms c noRoom .token)
       → (standings : List Standing) → Filled rooms standings 16 → record { fine = true; tokens = k; rooms = standings } ≡ seenIn n rooms
   unfolding seenIn
   seen-all a k e standings f = rw (a, e, listed-is 16 (λ c. standing (getD rooms c noRoom)) noStanding standings (f .long) (f .low))

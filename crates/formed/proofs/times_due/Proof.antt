@@ -2,14 +2,10 @@ use borrow.Author.Needs.{needs}
 use Rattle.formed.proofs.Laws.{due-none, due-some}
 use Rattle.formed.proofs.times_due.Statement.{statement}
 use Rattle.formed.proofs.times_due.Tie as tie
-use Rattle.formed.proofs.times_due.Reads as reads
-use Rattle.formed.proofs.times_due.Lts as lts
 
--- src/lib.rt:21:1
 returns : tie.Need-returns
 returns c = search (needs, due-none)
 
--- src/lib.rt:21:1
 returns-2 : tie.Need-returns-2
 returns-2 c = search (needs, due-some)
 

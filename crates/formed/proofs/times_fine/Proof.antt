@@ -1,18 +1,12 @@
 use borrow.Author.Needs.{needs}
-use borrow.Author.Tests.{not-true, not-false}
 use native.Mathlib.Omega.{arith}
 use mathlib.Core.Path.{_≡_, refl, sym, _∙_}
-use mathlib.Core.Bool.{Bool, true}
-use mathlib.Core.List.{List}
-use Prim.Native.Nat.{ℕ, _≤_, _-_}
-use lib.ListN.{getD}
+use mathlib.Core.Bool.{true}
+use Prim.Native.Nat.{_≤_, _-_}
 use Rattle.base.specs.Below.{allBelow, all-more, all-fails}
 use Rattle.formed.proofs.Laws.{timesRight, times-all, times-wrong, times-right}
 use Rattle.formed.proofs.times_fine.Statement.{statement}
 use Rattle.formed.proofs.times_fine.Tie as tie
-use Rattle.formed.proofs.times_fine.Reads as reads
-use Rattle.formed.proofs.times_fine.Lts as lts
-use Rattle.formed.proofs.times_due.Reads as times-due-reads
 
 abbrev Inv-loop : tie.InvT-loop
 Inv-loop n rooms times c₀ c = (c ≤ n) × (allBelow c (timesRight rooms times) ≡ true)
@@ -20,31 +14,24 @@ Inv-loop n rooms times c₀ c = (c ≤ n) × (allBelow c (timesRight rooms times
 abbrev μ-loop : tie.MeasureT-loop
 μ-loop n rooms times c₀ c = n - c
 
--- src/lib.rt:36:5
 loop-holds : tie.Need-loop-holds Inv-loop μ-loop
 loop-holds c = (search needs, refl)
 
--- src/lib.rt:37:20
 mul-room : tie.Need-mul-room Inv-loop μ-loop
 mul-room c = search needs
 
--- src/lib.rt:37:20
 array-copy-out-room : tie.Need-array-copy-out-room Inv-loop μ-loop
 array-copy-out-room c = search needs
 
--- src/lib.rt:38:12
 mul-if1 : tie.Need-mul-if1 Inv-loop μ-loop
 mul-if1 c = search needs
 
--- src/lib.rt:38:12
 array-read-if1 : tie.Need-array-read-if1 Inv-loop μ-loop
 array-read-if1 c = search needs
 
--- src/lib.rt:38:24
 times-due-requires : tie.Need-times-due-requires Inv-loop μ-loop
 times-due-requires c κs = search needs
 
--- src/lib.rt:39:13
 returns : tie.Need-returns Inv-loop μ-loop
 returns c =
     let s = c .before .before .before .before .before .args in
@@ -52,15 +39,12 @@ returns c =
     let bad = times-wrong (s .t2) (s .t3) j _ (c .before .times-due .ensures) (c .if1 .taken) in
     sym (all-fails (timesRight (s .t2) (s .t3)) (s .n) j (omega arith) bad) ∙ times-all _ _ _
 
--- src/lib.rt:41:9
 add-c : tie.Need-add-c Inv-loop μ-loop
 add-c c = search needs
 
--- src/lib.rt:36:5
 loop-less : tie.Need-loop-less Inv-loop μ-loop
 loop-less c = search needs
 
--- src/lib.rt:36:5
 loop-again : tie.Need-loop-again Inv-loop μ-loop
 loop-again c =
     let s = c .before .before .before .before .before .args in
@@ -68,7 +52,6 @@ loop-again c =
     let good = times-right (s .t2) (s .t3) (k .c) _ (c .before .times-due .ensures) (c .if1 .left) in
     (search needs, all-more (timesRight (s .t2) (s .t3)) (k .c) (k .inv .1) good)
 
--- src/lib.rt:31:1
 returns-2 : tie.Need-returns-2 Inv-loop μ-loop
 returns-2 c =
     let k = c .before .loop in

@@ -2,22 +2,13 @@ use borrow.Author.Needs.{needs}
 use native.Mathlib.Omega.{arith}
 use mathlib.Core.Path.{_≡_}
 use mathlib.Core.Logic.{⊎-elim}
-use Prim.Native.Nat.{ℕ, _-_}
+use Prim.Native.Nat.{_-_}
 use Rattle.table.proofs.Known.{wires-long}
 use Rattle.formed.proofs.Counted.{counted-raised, counted-kept}
 use Rattle.formed.proofs.Looked.{Looked, fit-rooms, ill-sizes, looked-times, looked-tokens, looked-ill, names-next, looked-next, well-not, well-so}
 use Rattle.formed.proofs.Begun.{seen-ill, named-ill, begun}
 use Rattle.formed.proofs.well_formed.Statement.{statement}
 use Rattle.formed.proofs.well_formed.Tie as tie
-use Rattle.formed.proofs.well_formed.Reads as reads
-use Rattle.formed.proofs.well_formed.Lts as lts
-use Rattle.formed.proofs.queue.look_over.Reads as queue-look-over-reads
-use Rattle.formed.proofs.ranges.sizes_fit.Reads as sizes-fit-reads
-use Rattle.formed.proofs.rooms.look_over.Reads as rooms-look-over-reads
-use Rattle.formed.proofs.times_fine.Reads as times-fine-reads
-use Rattle.formed.proofs.wires.named_by.Reads as named-by-reads
-use Rattle.formed.proofs.wires.wire_fine.Reads as wire-fine-reads
-use Rattle.formed.proofs.wires.tokens_in.Reads as tokens-in-reads
 
 abbrev Inv-loop : tie.InvT-loop
 Inv-loop t n queued count standings times₀ tokens₀ i₀ times tokens i = Looked t standings times tokens i
@@ -25,115 +16,89 @@ Inv-loop t n queued count standings times₀ tokens₀ i₀ times tokens i = Loo
 abbrev μ-loop : tie.MeasureT-loop
 μ-loop t n queued count standings times₀ tokens₀ i₀ times tokens i = 256 - i
 
--- src/lib.rt:52:9
 sizes-fit-requires : tie.Need-sizes-fit-requires Inv-loop μ-loop
 sizes-fit-requires c κs = search needs
 
--- src/lib.rt:53:9
 returns : tie.Need-returns Inv-loop μ-loop
 returns c = search (needs, ill-sizes)
 
--- src/lib.rt:56:9
 look-over-requires : tie.Need-look-over-requires Inv-loop μ-loop
 look-over-requires c κs = search needs
 
--- src/lib.rt:58:9
 returns-2 : tie.Need-returns-2 Inv-loop μ-loop
 returns-2 c = search (needs, seen-ill)
 
--- src/lib.rt:62:9
 look-over-requires-2 : tie.Need-look-over-requires-2 Inv-loop μ-loop
 look-over-requires-2 c κs = search needs
 
--- src/lib.rt:64:9
 returns-3 : tie.Need-returns-3 Inv-loop μ-loop
 returns-3 c = search (needs, named-ill)
 
--- src/lib.rt:69:5
 loop-holds : tie.Need-loop-holds Inv-loop μ-loop
 loop-holds c = search (needs, begun, wires-long)
 
--- src/lib.rt:70:17
 mul-w : tie.Need-mul-w Inv-loop μ-loop
 mul-w c = search needs
 
--- src/lib.rt:70:17
 element-copy-out-w : tie.Need-element-copy-out-w Inv-loop μ-loop
 element-copy-out-w c = search needs
 
--- src/lib.rt:71:13
 wire-fine-requires : tie.Need-wire-fine-requires Inv-loop μ-loop
 wire-fine-requires c κs = search needs
 
--- src/lib.rt:72:13
 returns-4 : tie.Need-returns-4 Inv-loop μ-loop
 returns-4 c = search (needs, looked-ill)
 
--- src/lib.rt:74:13
-named-by-requires : tie.Need-named-by-requires Inv-loop μ-loop
-named-by-requires c κs = search needs
+carried-by-requires : tie.Need-carried-by-requires Inv-loop μ-loop
+carried-by-requires c κs = search needs
 
--- src/lib.rt:76:13
 mul-times : tie.Need-mul-times Inv-loop μ-loop
 mul-times c = search needs
 
--- src/lib.rt:76:13
 array-read-times : tie.Need-array-read-times Inv-loop μ-loop
 array-read-times c = search needs
 
--- src/lib.rt:76:13
 add-times : tie.Need-add-times Inv-loop μ-loop
 add-times c =
     let k = c .before .before .before .before .before .before .loop in
-    omega (arith, looked-times _ _ _ _ _ (k .inv) (c .before .named-by .result) (c .if5 .taken))
+    omega (arith, looked-times _ _ _ _ _ (k .inv) (c .before .carried-by .result .room) (c .if5 .taken))
 
--- src/lib.rt:76:13
 array-write-times : tie.Need-array-write-times Inv-loop μ-loop
 array-write-times c = search needs
 
--- src/lib.rt:78:19
-tokens-in-requires : tie.Need-tokens-in-requires Inv-loop μ-loop
-tokens-in-requires c κs = search needs
-
--- src/lib.rt:78:9
 add-tokens : tie.Need-add-tokens Inv-loop μ-loop
 add-tokens c =
     let k = c .before .before .before .before .before .before .before .loop in
-    omega (arith, looked-tokens _ _ _ _ _ (k .inv) _ (c .tokens-in .ensures))
+    omega (arith, looked-tokens _ _ _ _ _ (k .inv) _ (c .before .before .carried-by .ensures))
 
--- src/lib.rt:79:9
 add-i : tie.Need-add-i Inv-loop μ-loop
 add-i c = search needs
 
--- src/lib.rt:69:5
 loop-less : tie.Need-loop-less Inv-loop μ-loop
 loop-less c = search needs
 
--- src/lib.rt:69:5
 loop-again : tie.Need-loop-again Inv-loop μ-loop
 loop-again c =
     let k = c .before .before .before .before .before .before .before .loop in
     let turn = c .before .before .before .before .before .before .loop-test .taken in
     let tested = c .before .before .before .before .wire-fine .ensures in
     let fine = c .before .before .before .if4 .left in
-    let more = names-next _ _ _ _ _ (k .inv) turn _ tested fine _ (c .before .before .named-by .ensures) in
-    looked-next _ _ _ _ _ (k .inv) turn _ tested fine _ (c .tokens-in .ensures) _ (⊎-elim
+    let carried = c .before .before .carried-by .ensures in
+    let more = names-next _ _ _ _ _ (k .inv) turn _ tested fine _ carried in
+    looked-next _ _ _ _ _ (k .inv) turn _ tested fine _ carried _ (⊎-elim
     (λ w. counted-raised _ _ _ (k .inv .named) _ more _ (w .0 .taken) (w .1))
     (λ w. counted-kept _ _ _ (k .inv .named) _ more _ (w .0 .left) (w .1))
     (c .before .if5 .came))
 
--- src/lib.rt:81:20
 times-fine-requires : tie.Need-times-fine-requires Inv-loop μ-loop
 times-fine-requires c κs = fit-rooms _ _ _ (c .before .before .loop .inv .sizes)
 
--- src/lib.rt:46:1
 returns-5 : tie.Need-returns-5 Inv-loop μ-loop
 returns-5 c =
     let k = c .before .before .before .loop in
     let e : k .i ≡ 256 = omega arith in
     well-so _ _ _ _ (rw e at (k .inv)) (c .before .if6 .taken) _ (c .times-fine .ensures)
 
--- src/lib.rt:46:1
 returns-6 : tie.Need-returns-6 Inv-loop μ-loop
 returns-6 c =
     let k = c .before .before .loop in
@@ -157,12 +122,11 @@ well-formed-spec =
     element-copy-out-w
     wire-fine-requires
     returns-4
-    named-by-requires
+    carried-by-requires
     mul-times
     array-read-times
     add-times
     array-write-times
-    tokens-in-requires
     add-tokens
     add-i
     loop-less

@@ -1,20 +1,18 @@
 -- A law for each branch of the tests of the messages, over plain values.
-use mathlib.Core.Path.{_≡_, refl, sym, _∙_}
+use mathlib.Core.Path.{_≡_, sym, _∙_}
 use mathlib.Core.Bool.{Bool, true, false, not, and-true, and-false}
 use mathlib.Core.List.{List}
 use Prim.Native.Nat.{ℕ, _≤_, _<_}
-use lib.ListN.{getD}
 use lib.Dec.{ltb, eqb}
 use borrow.Author.Tests.{lt-ltb, le-ltb, eq-eqb, ne-eqb, not-true, not-false}
-use Rattle.base.specs.Sums.{one}
 use Rattle.table.specs.declared.Wire.{Wire}
 use Rattle.table.specs.declared.Message.{Message}
 use Rattle.table.specs.declared.Message.the-variants as msg
-use Rattle.table.specs.Formed.{isCode, isMode, due, messageFine, namesRightly, wireFine, isNothing, isBlankWire, isToken}
+use Rattle.table.specs.Formed.{isCode, isMode, due, messageFine, namesRightly, wireFine, isNothing, isBlankWire}
 use Rattle.formed.specs.declared.rooms.Standing.{Standing}
 use Rattle.formed.specs.Parts.{isGranted}
-use Rattle.formed.specs.Seen.{noStanding, roomsOf}
-use Rattle.formed.specs.Names.{wirePlaceFine, namedBy}
+use Rattle.formed.specs.Seen.{standingAt, roomsOf}
+use Rattle.formed.specs.Names.{wirePlaceFine, carriedBy}
 
 -- the codes and the room number in a message
 module _ (n : ℕ) (m : Message) where
@@ -58,12 +56,12 @@ module _ (rooms : List Standing) (to : ℕ) (m : Message) where
   unfolding namesRightly
   names-reduce l k e = rw e
 
-  pub names-request : (o k : ℕ) (i : Bool) → m ≡ msg.Request o k i → (s : Standing) → s ≡ getD rooms o noStanding
+  pub names-request : (o k : ℕ) (i : Bool) → m ≡ msg.Request o k i → (s : Standing) → s ≡ standingAt rooms o
       → eqb (s .due) k ≡ namesRightly (roomsOf rooms) to m
   unfolding namesRightly due
   names-request o k i e s p = rw (e, p)
 
-  module _ (s : Standing) (p : s ≡ getD rooms to noStanding) where
+  module _ (s : Standing) (p : s ≡ standingAt rooms to) where
     module _ (k l : ℕ) (e : m ≡ msg.Grant k l) where
       pub names-other : (s .due ≡ k → ⊥) → eqb (s .due) k ≡ namesRightly (roomsOf rooms) to m
       unfolding namesRightly due
@@ -136,45 +134,24 @@ module _ (w : Wire) where
   unfolding isBlankWire isNothing
   blank-reduce l k e = simp (e, and-false)
 
--- whom a message names, and the tokens in it
+-- the room that a message names, and its tokens
 module _ (to : ℕ) (m : Message) where
-  pub by-nothing : m ≡ msg.Nothing → 16 ≡ namedBy to m
-  unfolding namedBy
-  by-nothing e = rw e
+  pub carried-nothing : m ≡ msg.Nothing → record { room = 16; tokens = 0 } ≡ carriedBy to m
+  unfolding carriedBy
+  carried-nothing e = rw e
 
-  pub by-request : (o k : ℕ) (i : Bool) → m ≡ msg.Request o k i → o ≡ namedBy to m
-  unfolding namedBy
-  by-request o k i e = rw e
+  pub carried-request : (o k : ℕ) (i : Bool) → m ≡ msg.Request o k i → record { room = o; tokens = 0 } ≡ carriedBy to m
+  unfolding carriedBy
+  carried-request o k i e = rw e
 
-  pub by-grant : (k l : ℕ) → m ≡ msg.Grant k l → to ≡ namedBy to m
-  unfolding namedBy
-  by-grant k l e = rw e
+  pub carried-grant : (k l : ℕ) → m ≡ msg.Grant k l → record { room = to; tokens = 0 } ≡ carriedBy to m
+  unfolding carriedBy
+  carried-grant k l e = rw e
 
-  pub by-token : (k rest l : ℕ) → m ≡ msg.Token k rest l → to ≡ namedBy to m
-  unfolding namedBy
-  by-token k rest l e = rw e
+  pub carried-token : (k rest l : ℕ) → m ≡ msg.Token k rest l → record { room = to; tokens = 1 } ≡ carriedBy to m
+  unfolding carriedBy
+  carried-token k rest l e = rw e
 
-  pub by-reduce : (l k : ℕ) → m ≡ msg.Reduce l k → 16 ≡ namedBy to m
-  unfolding namedBy
-  by-reduce l k e = rw e
-
-module _ (m : Message) where
-  pub tokens-nothing : m ≡ msg.Nothing → 0 ≡ one (isToken m)
-  unfolding isToken
-  tokens-nothing e = rw e
-
-  pub tokens-request : (o k : ℕ) (i : Bool) → m ≡ msg.Request o k i → 0 ≡ one (isToken m)
-  unfolding isToken
-  tokens-request o k i e = rw e
-
-  pub tokens-grant : (k l : ℕ) → m ≡ msg.Grant k l → 0 ≡ one (isToken m)
-  unfolding isToken
-  tokens-grant k l e = rw e
-
-  pub tokens-token : (k rest l : ℕ) → m ≡ msg.Token k rest l → 1 ≡ one (isToken m)
-  unfolding isToken
-  tokens-token k rest l e = rw e
-
-  pub tokens-reduce : (l k : ℕ) → m ≡ msg.Reduce l k → 0 ≡ one (isToken m)
-  unfolding isToken
-  tokens-reduce l k e = rw e
+  pub carried-reduce : (l k : ℕ) → m ≡ msg.Reduce l k → record { room = 16; tokens = 0 } ≡ carriedBy to m
+  unfolding carriedBy
+  carried-reduce l k e = rw e

@@ -5,7 +5,7 @@ use mathlib.Core.Path.{_≡_, refl, sym, _∙_}
 use mathlib.Core.Logic.{⊎-elim}
 use mathlib.Core.Bool.{Bool, true}
 use mathlib.Core.List.{List}
-use Prim.Native.Nat.{ℕ, _≤_, _-_}
+use Prim.Native.Nat.{ℕ, _≤_, _<_, _-_}
 use lib.ListN.{getD}
 use lib.Dec.{ltb}
 use Rattle.base.specs.Below.{allBelow, all-more}
@@ -14,13 +14,9 @@ use Rattle.table.specs.Tables.{noQueued}
 use Rattle.formed.specs.declared.rooms.Standing.{Standing}
 use Rattle.formed.specs.Names.{queuePlaceFine}
 use Rattle.formed.proofs.Counted.{Counted, counted-raised, counted-kept}
-use Rattle.formed.proofs.queue.Times.{placesNaming, naming-none, naming-next, naming-low, named-ill, named-all}
+use Rattle.formed.proofs.queue.Times.{placesNaming, naming-none, naming-used, naming-unused, naming-low, names-low, named-ill, named-all}
 use Rattle.formed.proofs.queue.look_over.Statement.{statement}
 use Rattle.formed.proofs.queue.look_over.Tie as tie
-use Rattle.formed.proofs.queue.look_over.Reads as reads
-use Rattle.formed.proofs.queue.look_over.Lts as lts
-use Rattle.formed.proofs.queue.named_by.Reads as named-by-reads
-use Rattle.formed.proofs.queue.place_fine.Reads as place-fine-reads
 
 -- the test of one place
 abbrev test : ℕ → List Standing → List Queued → ℕ → ℕ → Bool
@@ -33,76 +29,73 @@ Inv-loop n rooms queued queue none times₀ i₀ times i =
 abbrev μ-loop : tie.MeasureT-loop
 μ-loop n rooms queued queue none times₀ i₀ times i = 16 - i
 
--- src/queue.rt:65:5
 loop-holds : tie.Need-loop-holds Inv-loop μ-loop
 loop-holds c = (search needs, refl, naming-none _ _)
 
--- src/queue.rt:66:17
 mul-q : tie.Need-mul-q Inv-loop μ-loop
 mul-q c = search needs
 
--- src/queue.rt:66:17
 array-copy-out-q : tie.Need-array-copy-out-q Inv-loop μ-loop
 array-copy-out-q c = search needs
 
--- src/queue.rt:67:13
 place-fine-requires : tie.Need-place-fine-requires Inv-loop μ-loop
 place-fine-requires c κs = search needs
 
--- src/queue.rt:68:13
 returns : tie.Need-returns Inv-loop μ-loop
 returns c =
     named-ill _ _ _ _ (c .before .before .before .before .loop .i) (omega arith) (sym (c .before .place-fine .ensures) ∙ not-true _ (c .if1 .taken))
 
--- src/queue.rt:70:13
-named-by-requires : tie.Need-named-by-requires Inv-loop μ-loop
-named-by-requires c κs = search needs
+cast-at : tie.Need-cast-at Inv-loop μ-loop
+cast-at c = search needs
 
--- src/queue.rt:72:13
+-- a place that is fine and in use names one of the sixteen rooms
+at-low : (c : tie.After-struct-known Inv-loop μ-loop)
+    → getD (c .before .before .before .before .before .before .before .args .t3) (c .before .before .before .before .before .before .loop .i) noQueued .room < 16
+at-low c =
+    let b = c .before .before .before .before .before .before .before in
+    let fine = sym (c .before .before .before .place-fine .ensures) ∙ not-false _ (c .before .before .if1 .left) in
+    let i = c .before .before .before .before .before .before .loop .i in
+    names-low _ (b .args .rooms) (b .args .t3) (b .args .queued) (b .good .1 .0 .1 .0 .1) i (c .before .if2 .taken) fine
+
 mul-times : tie.Need-mul-times Inv-loop μ-loop
-mul-times c = search needs
+mul-times c = omega (arith, at-low c)
 
--- src/queue.rt:72:13
 array-read-times : tie.Need-array-read-times Inv-loop μ-loop
-array-read-times c = search needs
+array-read-times c = at-low c
 
--- src/queue.rt:72:13
 add-times : tie.Need-add-times Inv-loop μ-loop
 add-times c =
     let s = c .before .before .before .before .before .before .before .args in
     let k = c .before .before .before .before .before .before .loop in
-    let at = c .before .named-by .result in
-    omega (arith, k .inv .2 .at at (c .if2 .taken), naming-low (s .t3) (s .queued) (k .i) at)
+    let at = getD (s .t3) (k .i) noQueued .room in
+    omega (arith, k .inv .2 .at at (at-low c), naming-low (s .t3) (s .queued) (k .i) at)
 
--- src/queue.rt:72:13
 array-write-times : tie.Need-array-write-times Inv-loop μ-loop
-array-write-times c = search needs
+array-write-times c = at-low c
 
--- src/queue.rt:74:9
 add-i : tie.Need-add-i Inv-loop μ-loop
 add-i c = search needs
 
--- src/queue.rt:65:5
 loop-less : tie.Need-loop-less Inv-loop μ-loop
 loop-less c = search needs
 
--- src/queue.rt:65:5
 loop-again : tie.Need-loop-again Inv-loop μ-loop
 loop-again c =
-    let b = c .before .before .before .before .before .before .before in
-    let k = c .before .before .before .before .before .before .loop in
-    let fine = sym (c .before .before .before .place-fine .ensures) ∙ not-false _ (c .before .before .if1 .left) in
+    let b = c .before .before .before .before .before .before in
+    let k = c .before .before .before .before .before .loop in
+    let fine = sym (c .before .before .place-fine .ensures) ∙ not-false _ (c .before .if1 .left) in
     let long = b .good .1 .1 .0 .1 .0 .1 in
-    let more = naming-next (b .args .t3) (b .args .queued) (k .i) (omega arith) (c .before .named-by .result) (c .before .named-by .ensures) in (
+    let low = names-low (b .args .n) (b .args .rooms) (b .args .t3) (b .args .queued) (b .good .1 .0 .1 .0 .1) (k .i) in
+    let used = naming-used (b .args .t3) (b .args .queued) (k .i) (omega arith) in
+    let unused = naming-unused (b .args .t3) (b .args .queued) (k .i) (omega arith) in (
       omega arith,
       all-more (test (b .args .n) (b .args .rooms) (b .args .t3) (b .args .queued)) (k .i) (k .inv .1) fine,
       ⊎-elim
-          (λ w. counted-raised _ _ _ (k .inv .2) _ more _ (w .0 .taken) (w .1))
-          (λ w. counted-kept _ _ _ (k .inv .2) _ more _ (w .0 .left) (w .1))
+          (λ w. counted-raised _ _ _ (k .inv .2) _ (used (w .0 .taken)) _ (low (w .0 .taken) fine) (w .2))
+          (λ w. counted-kept _ _ _ (k .inv .2) 16 (unused (w .0 .left)) _ (omega arith) (w .1))
           (c .if2 .came),
     )
 
--- src/queue.rt:59:1
 returns-2 : tie.Need-returns-2 Inv-loop μ-loop
 returns-2 c =
     let k = c .before .loop in
@@ -120,7 +113,7 @@ look-over-spec =
     array-copy-out-q
     place-fine-requires
     returns
-    named-by-requires
+    cast-at
     mul-times
     array-read-times
     add-times

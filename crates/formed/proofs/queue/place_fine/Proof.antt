@@ -2,36 +2,25 @@ use Rattle.formed.proofs.queue.Laws.{place-mode, place-room, place-past
 use borrow.Author.Needs.{needs}
 use Rattle.formed.proofs.queue.place_fine.Statement.{statement}
 use Rattle.formed.proofs.queue.place_fine.Tie as tie
-use Rattle.formed.proofs.queue.place_fine.Reads as reads
-use Rattle.formed.proofs.queue.place_fine.Lts as lts
-use Rattle.formed.proofs.ranges.is_mode.Reads as is-mode-reads
-use Rattle.formed.proofs.rooms.standing_at.Reads as standing-at-reads
 
--- src/queue.rt:27:9
 returns : tie.Need-returns
 returns c = search (needs, place-mode)
 
--- src/queue.rt:27:9
 returns-2 : tie.Need-returns-2
 returns-2 c = search (needs, place-room)
 
--- src/queue.rt:30:9
 returns-3 : tie.Need-returns-3
 returns-3 c = search (needs, place-past)
 
--- src/queue.rt:32:9
 is-mode-requires : tie.Need-is-mode-requires
 is-mode-requires c κs = search needs
 
--- src/queue.rt:33:9
 returns-4 : tie.Need-returns-4
 returns-4 c = search (needs, place-none)
 
--- src/queue.rt:35:9
 standing-at-requires : tie.Need-standing-at-requires
 standing-at-requires c κs = search needs
 
--- src/queue.rt:23:1
 returns-5 : tie.Need-returns-5
 returns-5 c = search (needs, place-due)
 

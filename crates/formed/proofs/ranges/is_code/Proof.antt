@@ -2,14 +2,10 @@ use borrow.Author.Needs.{needs}
 use Rattle.formed.proofs.ranges.Laws.{code-low, code-high}
 use Rattle.formed.proofs.ranges.is_code.Statement.{statement}
 use Rattle.formed.proofs.ranges.is_code.Tie as tie
-use Rattle.formed.proofs.ranges.is_code.Reads as reads
-use Rattle.formed.proofs.ranges.is_code.Lts as lts
 
--- src/ranges.rt:11:1
 returns : tie.Need-returns
 returns c = search (needs, code-low)
 
--- src/ranges.rt:11:1
 returns-2 : tie.Need-returns-2
 returns-2 c = search (needs, code-high)
 

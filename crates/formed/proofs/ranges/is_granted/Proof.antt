@@ -3,26 +3,19 @@ use native.Mathlib.Omega.{arith}
 use Rattle.formed.proofs.ranges.Laws.{granted-not, granted-IW, granted-low}
 use Rattle.formed.proofs.ranges.is_granted.Statement.{statement}
 use Rattle.formed.proofs.ranges.is_granted.Tie as tie
-use Rattle.formed.proofs.ranges.is_granted.Reads as reads
-use Rattle.formed.proofs.ranges.is_granted.Lts as lts
 
--- src/ranges.rt:38:1
 returns : tie.Need-returns
 returns c = granted-not _ (omega arith) (omega arith) (omega arith)
 
--- src/ranges.rt:38:1
 returns-2 : tie.Need-returns-2
 returns-2 c = granted-not _ (omega arith) (omega arith) (omega arith)
 
--- src/ranges.rt:38:1
 returns-3 : tie.Need-returns-3
 returns-3 c = search (needs, granted-IW)
 
--- src/ranges.rt:38:1
 returns-4 : tie.Need-returns-4
 returns-4 c = search (needs, granted-low)
 
--- src/ranges.rt:38:1
 returns-5 : tie.Need-returns-5
 returns-5 c = granted-not _ (omega arith) (omega arith) (omega arith)
 

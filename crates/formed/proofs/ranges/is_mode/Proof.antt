@@ -2,18 +2,13 @@ use borrow.Author.Needs.{needs}
 use Rattle.formed.proofs.ranges.Laws.{mode-none, mode-some, mode-high}
 use Rattle.formed.proofs.ranges.is_mode.Statement.{statement}
 use Rattle.formed.proofs.ranges.is_mode.Tie as tie
-use Rattle.formed.proofs.ranges.is_mode.Reads as reads
-use Rattle.formed.proofs.ranges.is_mode.Lts as lts
 
--- src/ranges.rt:27:1
 returns : tie.Need-returns
 returns c = search (needs, mode-none)
 
--- src/ranges.rt:27:1
 returns-2 : tie.Need-returns-2
 returns-2 c = search (needs, mode-some)
 
--- src/ranges.rt:27:1
 returns-3 : tie.Need-returns-3
 returns-3 c = search (needs, mode-high)
 

@@ -2,22 +2,16 @@ use borrow.Author.Needs.{needs}
 use Rattle.formed.proofs.ranges.Laws.{sizes-none, sizes-many, sizes-queue, sizes-count}
 use Rattle.formed.proofs.ranges.sizes_fit.Statement.{statement}
 use Rattle.formed.proofs.ranges.sizes_fit.Tie as tie
-use Rattle.formed.proofs.ranges.sizes_fit.Reads as reads
-use Rattle.formed.proofs.ranges.sizes_fit.Lts as lts
 
--- src/ranges.rt:21:1
 returns : tie.Need-returns
 returns c = search (needs, sizes-count)
 
--- src/ranges.rt:21:1
 returns-2 : tie.Need-returns-2
 returns-2 c = search (needs, sizes-queue)
 
--- src/ranges.rt:21:1
 returns-3 : tie.Need-returns-3
 returns-3 c = search (needs, sizes-none)
 
--- src/ranges.rt:21:1
 returns-4 : tie.Need-returns-4
 returns-4 c = search (needs, sizes-many)
 

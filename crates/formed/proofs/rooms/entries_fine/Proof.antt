@@ -13,9 +13,6 @@ use Rattle.table.specs.Formed.{entryFine}
 use Rattle.formed.proofs.rooms.Laws.{entries-all}
 use Rattle.formed.proofs.rooms.entries_fine.Statement.{statement}
 use Rattle.formed.proofs.rooms.entries_fine.Tie as tie
-use Rattle.formed.proofs.rooms.entries_fine.Reads as reads
-use Rattle.formed.proofs.rooms.entries_fine.Lts as lts
-use Rattle.formed.proofs.rooms.entry_fine.Reads as entry-fine-reads
 
 -- the test of one entry
 abbrev test : ℕ → ℕ → List Entry → ℕ → Bool
@@ -27,49 +24,39 @@ Inv-loop n c entries j₀ j = (j ≤ 16) × (allBelow j (test n c entries) ≡ t
 abbrev μ-loop : tie.MeasureT-loop
 μ-loop n c entries j₀ j = 16 - j
 
--- src/rooms.rt:52:5
 loop-holds : tie.Need-loop-holds Inv-loop μ-loop
 loop-holds c = (search needs, refl)
 
--- src/rooms.rt:53:17
 mul-e : tie.Need-mul-e Inv-loop μ-loop
 mul-e c = search needs
 
--- src/rooms.rt:53:17
 array-copy-out-e : tie.Need-array-copy-out-e Inv-loop μ-loop
 array-copy-out-e c = search needs
 
--- src/rooms.rt:54:30
 cast-entry-fine : tie.Need-cast-entry-fine Inv-loop μ-loop
 cast-entry-fine c = search needs
 
--- src/rooms.rt:54:13
 entry-fine-requires : tie.Need-entry-fine-requires Inv-loop μ-loop
 entry-fine-requires c κs = search needs
 
--- src/rooms.rt:55:13
 returns : tie.Need-returns Inv-loop μ-loop
 returns c =
     let s = c .before .before .before .before .before .args in
     let bad = sym (c .before .entry-fine .ensures) ∙ not-true _ (c .if1 .taken) in
     sym (all-fails (test (s .n) (s .c) (s .t3)) 16 (c .before .before .before .before .loop .j) (omega arith) bad) ∙ entries-all _ _ _
 
--- src/rooms.rt:57:9
 add-j : tie.Need-add-j Inv-loop μ-loop
 add-j c = search needs
 
--- src/rooms.rt:52:5
 loop-less : tie.Need-loop-less Inv-loop μ-loop
 loop-less c = search needs
 
--- src/rooms.rt:52:5
 loop-again : tie.Need-loop-again Inv-loop μ-loop
 loop-again c =
     let s = c .before .before .before .before .before .args in
     let k = c .before .before .before .before .loop in
     (search needs, all-more (test (s .n) (s .c) (s .t3)) (k .j) (k .inv .1) (sym (c .before .entry-fine .ensures) ∙ not-false _ (c .if1 .left)))
 
--- src/rooms.rt:48:1
 returns-2 : tie.Need-returns-2 Inv-loop μ-loop
 returns-2 c =
     let e : c .before .loop .j ≡ 16 = omega arith in

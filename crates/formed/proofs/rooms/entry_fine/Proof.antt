@@ -2,22 +2,16 @@ use borrow.Author.Needs.{needs}
 use Rattle.formed.proofs.rooms.Laws.{entry-none, entry-past, entry-some, entry-high}
 use Rattle.formed.proofs.rooms.entry_fine.Statement.{statement}
 use Rattle.formed.proofs.rooms.entry_fine.Tie as tie
-use Rattle.formed.proofs.rooms.entry_fine.Reads as reads
-use Rattle.formed.proofs.rooms.entry_fine.Lts as lts
 
--- src/rooms.rt:36:1
 returns : tie.Need-returns
 returns c = search (needs, entry-none)
 
--- src/rooms.rt:36:1
 returns-2 : tie.Need-returns-2
 returns-2 c = search (needs, entry-some)
 
--- src/rooms.rt:36:1
 returns-3 : tie.Need-returns-3
 returns-3 c = search (needs, entry-past)
 
--- src/rooms.rt:36:1
 returns-4 : tie.Need-returns-4
 returns-4 c = search (needs, entry-high)
 

@@ -3,47 +3,34 @@ use Rattle.formed.proofs.rooms.Laws.{holds-high, holds-none, holds-alon
 use borrow.Author.Needs.{needs}
 use Rattle.formed.proofs.rooms.holds_rightly.Statement.{statement}
 use Rattle.formed.proofs.rooms.holds_rightly.Tie as tie
-use Rattle.formed.proofs.rooms.holds_rightly.Reads as reads
-use Rattle.formed.proofs.rooms.holds_rightly.Lts as lts
-use Rattle.formed.proofs.ranges.is_code.Reads as is-code-reads
 
--- src/rooms.rt:85:17
 is-code-requires : tie.Need-is-code-requires
 is-code-requires c κs = search needs
 
--- src/rooms.rt:81:1
 returns : tie.Need-returns
 returns c = search (needs, holds-none)
 
--- src/rooms.rt:81:1
 returns-2 : tie.Need-returns-2
 returns-2 c = search (needs, holds-U-alone)
 
--- src/rooms.rt:81:1
 returns-3 : tie.Need-returns-3
 returns-3 c = search (needs, holds-U-upgrade)
 
--- src/rooms.rt:81:1
 returns-4 : tie.Need-returns-4
 returns-4 c = search (needs, holds-U-without)
 
--- src/rooms.rt:81:1
 returns-5 : tie.Need-returns-5
 returns-5 c = holds-alone _ _ _ (omega arith) (omega arith) (omega arith) (omega arith)
 
--- src/rooms.rt:81:1
 returns-6 : tie.Need-returns-6
 returns-6 c = search (needs, holds-W-alone)
 
--- src/rooms.rt:81:1
 returns-7 : tie.Need-returns-7
 returns-7 c = search (needs, holds-W-without)
 
--- src/rooms.rt:81:1
 returns-8 : tie.Need-returns-8
 returns-8 c = holds-alone _ _ _ (omega arith) (omega arith) (omega arith) (omega arith)
 
--- src/rooms.rt:81:1
 returns-9 : tie.Need-returns-9
 returns-9 c = holds-high _ _ _ (omega arith)
 

@@ -7,23 +7,19 @@ use mathlib.Core.Bool.{Bool, true}
 use mathlib.Core.List.{List}
 use Prim.Native.Nat.{ℕ, _≤_, _-_}
 use lib.ListN.{getD}
-use Rattle.base.specs.Below.{allBelow, all-more, all-fails}
+use Rattle.base.specs.Below.{allBelow, all-more}
 use Rattle.base.specs.Sums.{countBelow, count-below-le, sum-none}
 use Rattle.room.specs.declared.Room.{Room}
 use Rattle.room.specs.Record.{noRoom}
-use Rattle.formed.specs.Parts.{placeFine}
+use Rattle.formed.specs.Parts.{roomPlaceFine}
 use Rattle.formed.proofs.Lists.{count-one, count-same}
 use Rattle.formed.proofs.rooms.Standings.{Filled, filled-none, filled-more, seen-ill, seen-all}
 use Rattle.formed.proofs.rooms.look_over.Statement.{statement}
 use Rattle.formed.proofs.rooms.look_over.Tie as tie
-use Rattle.formed.proofs.rooms.look_over.Reads as reads
-use Rattle.formed.proofs.rooms.look_over.Lts as lts
-use Rattle.formed.proofs.rooms.room_fine.Reads as room-fine-reads
-use Rattle.formed.proofs.rooms.standing_of.Reads as standing-of-reads
 
 -- the test of one place
 abbrev test : ℕ → List Room → ℕ → Bool
-test n rooms c = placeFine n c (getD rooms c noRoom)
+test n rooms c = roomPlaceFine n c (getD rooms c noRoom)
 
 abbrev hasToken : List Room → ℕ → Bool
 hasToken rooms c = getD rooms c noRoom .token
@@ -38,58 +34,45 @@ Inv-loop n rooms none standings₀ tokens₀ c₀ standings tokens c =
 abbrev μ-loop : tie.MeasureT-loop
 μ-loop n rooms none standings₀ tokens₀ c₀ standings tokens c = 16 - c
 
--- src/rooms.rt:175:5
 loop-holds : tie.Need-loop-holds Inv-loop μ-loop
 loop-holds c = (search needs, refl, sym (sum-none _), filled-none _)
 
--- src/rooms.rt:176:17
 mul-r : tie.Need-mul-r Inv-loop μ-loop
 mul-r c = search needs
 
--- src/rooms.rt:176:17
 array-copy-out-r : tie.Need-array-copy-out-r Inv-loop μ-loop
 array-copy-out-r c = search needs
 
--- src/rooms.rt:177:27
 cast-room-fine : tie.Need-cast-room-fine Inv-loop μ-loop
 cast-room-fine c = search needs
 
--- src/rooms.rt:177:13
 room-fine-requires : tie.Need-room-fine-requires Inv-loop μ-loop
 room-fine-requires c κs = search needs
 
--- src/rooms.rt:178:13
 returns : tie.Need-returns Inv-loop μ-loop
 returns c =
     seen-ill _ _ (c .before .before .before .before .loop .c) (omega arith) (sym (c .before .room-fine .ensures) ∙ not-true _ (c .if1 .taken))
 
--- src/rooms.rt:180:24
 standing-of-requires : tie.Need-standing-of-requires Inv-loop μ-loop
 standing-of-requires c κs = search needs
 
--- src/rooms.rt:180:9
 mul-standings : tie.Need-mul-standings Inv-loop μ-loop
 mul-standings c = search needs
 
--- src/rooms.rt:180:9
 array-set-from-standings : tie.Need-array-set-from-standings Inv-loop μ-loop
 array-set-from-standings c = search needs
 
--- src/rooms.rt:182:13
 add-tokens : tie.Need-add-tokens Inv-loop μ-loop
 add-tokens c =
     let s = c .before .before .before .before .before .before .before .args in
     omega (arith, count-below-le (c .before .before .before .before .before .before .loop .c) (hasToken (s .t2)))
 
--- src/rooms.rt:184:9
 add-c : tie.Need-add-c Inv-loop μ-loop
 add-c c = search needs
 
--- src/rooms.rt:175:5
 loop-less : tie.Need-loop-less Inv-loop μ-loop
 loop-less c = search needs
 
--- src/rooms.rt:175:5
 loop-again : tie.Need-loop-again Inv-loop μ-loop
 loop-again c =
     let s = c .before .before .before .before .before .before .before .args in
@@ -104,7 +87,6 @@ loop-again c =
       filled-more _ _ _ (omega arith) (k .inv .3) _ (c .before .standing-of .ensures),
     )
 
--- src/rooms.rt:168:1
 returns-2 : tie.Need-returns-2 Inv-loop μ-loop
 returns-2 c =
     let k = c .before .loop in

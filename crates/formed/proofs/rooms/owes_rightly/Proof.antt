@@ -3,30 +3,22 @@ use native.Mathlib.Omega.{arith}
 use Rattle.formed.proofs.rooms.Laws.{owes-self, owes-high, owes-free, owes-nothing, owes-past, owes-some}
 use Rattle.formed.proofs.rooms.owes_rightly.Statement.{statement}
 use Rattle.formed.proofs.rooms.owes_rightly.Tie as tie
-use Rattle.formed.proofs.rooms.owes_rightly.Reads as reads
-use Rattle.formed.proofs.rooms.owes_rightly.Lts as lts
 
--- src/rooms.rt:99:9
 returns : tie.Need-returns
 returns c = search (needs, owes-self)
 
--- src/rooms.rt:95:1
 returns-2 : tie.Need-returns-2
 returns-2 c = search (needs, owes-free)
 
--- src/rooms.rt:95:1
 returns-3 : tie.Need-returns-3
 returns-3 c = search (needs, owes-nothing)
 
--- src/rooms.rt:95:1
 returns-4 : tie.Need-returns-4
 returns-4 c = owes-some _ _ _ (omega arith) (omega arith) (omega arith) (omega arith) (omega arith)
 
--- src/rooms.rt:95:1
 returns-5 : tie.Need-returns-5
 returns-5 c = search (needs, owes-past)
 
--- src/rooms.rt:95:1
 returns-6 : tie.Need-returns-6
 returns-6 c = search (needs, owes-high)
 

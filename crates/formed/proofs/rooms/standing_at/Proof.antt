@@ -3,22 +3,16 @@ use Rattle.formed.proofs.rooms.Laws.{standing-past}
 use borrow.Author.Needs.{needs}
 use Rattle.formed.proofs.rooms.standing_at.Statement.{statement}
 use Rattle.formed.proofs.rooms.standing_at.Tie as tie
-use Rattle.formed.proofs.rooms.standing_at.Reads as reads
-use Rattle.formed.proofs.rooms.standing_at.Lts as lts
 
--- src/rooms.rt:209:16
 mul-result : tie.Need-mul-result
 mul-result c = search needs
 
--- src/rooms.rt:209:16
 array-copy-out-result : tie.Need-array-copy-out-result
 array-copy-out-result c = search needs
 
--- src/rooms.rt:209:9
 returns : tie.Need-returns
 returns c = search needs
 
--- src/rooms.rt:204:1
 returns-2 : tie.Need-returns-2
 returns-2 c = standing-past (c .before .args .t1) (c .before .args .c) (c .before .good .0 .1 .0 .1) (omega arith)
 

@@ -2,50 +2,37 @@ use Rattle.formed.proofs.wires.Laws.{blank-from, blank-to, blank-reques
 use borrow.Author.Needs.{needs}
 use Rattle.formed.proofs.wires.wire_blank.Statement.{statement}
 use Rattle.formed.proofs.wires.wire_blank.Tie as tie
-use Rattle.formed.proofs.wires.wire_blank.Reads as reads
-use Rattle.formed.proofs.wires.wire_blank.Lts as lts
 
--- src/wires.rt:71:29
 enum-told : tie.Need-enum-told
 enum-told c = search needs
 
--- src/wires.rt:72:36
 enum-told-2 : tie.Need-enum-told-2
 enum-told-2 c = search needs
 
--- src/wires.rt:73:34
 enum-told-3 : tie.Need-enum-told-3
 enum-told-3 c = search needs
 
--- src/wires.rt:74:34
 enum-told-4 : tie.Need-enum-told-4
 enum-told-4 c = search needs
 
--- src/wires.rt:75:35
 enum-told-5 : tie.Need-enum-told-5
 enum-told-5 c = search needs
 
--- src/wires.rt:66:1
 returns : tie.Need-returns
 returns c = search (needs, blank-to)
 
--- src/wires.rt:66:1
 returns-2 : tie.Need-returns-2
 returns-2 c = search (needs, blank-from)
 
--- src/wires.rt:66:1
 returns-3 : tie.Need-returns-3
 returns-3 c = search (needs, blank-request)
 
--- src/wires.rt:66:1
 returns-4 : tie.Need-returns-4
 returns-4 c = search (needs, blank-grant)
 
--- src/wires.rt:66:1
 returns-5 : tie.Need-returns-5
 returns-5 c = search (needs, blank-token)
 
--- src/wires.rt:66:1
 returns-6 : tie.Need-returns-6
 returns-6 c = search (needs, blank-reduce)
 

@@ -2,45 +2,31 @@ use Rattle.formed.proofs.wires.Laws.{wire-unused, wire-from, wire-to, w
 use borrow.Author.Needs.{needs}
 use Rattle.formed.proofs.wires.wire_fine.Statement.{statement}
 use Rattle.formed.proofs.wires.wire_fine.Tie as tie
-use Rattle.formed.proofs.wires.wire_fine.Reads as reads
-use Rattle.formed.proofs.wires.wire_fine.Lts as lts
-use Rattle.formed.proofs.wires.message_fine.Reads as message-fine-reads
-use Rattle.formed.proofs.wires.names_rightly.Reads as names-rightly-reads
-use Rattle.formed.proofs.wires.wire_blank.Reads as wire-blank-reads
 
--- src/wires.rt:64:9
 wire-blank-requires : tie.Need-wire-blank-requires
 wire-blank-requires c κs = search needs
 
--- src/wires.rt:64:9
 returns : tie.Need-returns
 returns c = search (needs, wire-unused)
 
--- src/wires.rt:67:9
 returns-2 : tie.Need-returns-2
 returns-2 c = search (needs, wire-from)
 
--- src/wires.rt:70:9
 returns-3 : tie.Need-returns-3
 returns-3 c = search (needs, wire-to)
 
--- src/wires.rt:73:9
 returns-4 : tie.Need-returns-4
 returns-4 c = search (needs, wire-self)
 
--- src/wires.rt:76:9
 message-fine-requires : tie.Need-message-fine-requires
 message-fine-requires c κs = search needs
 
--- src/wires.rt:77:9
 returns-5 : tie.Need-returns-5
 returns-5 c = search (needs, wire-message)
 
--- src/wires.rt:79:5
 names-rightly-requires : tie.Need-names-rightly-requires
 names-rightly-requires c κs = search needs
 
--- src/wires.rt:60:1
 returns-6 : tie.Need-returns-6
 returns-6 c = search (needs, wire-names)
 

@@ -1,0 +1,49 @@
+use borrow.Author.Needs.{needs}
+use Prim.Native.Nat.{_≤_, _-_}
+use Rattle.vectors.proofs.change.with_reduces.Statement.{statement}
+use Rattle.vectors.proofs.change.with_reduces.Tie as tie
+
+abbrev Inv-loop : tie.InvT-loop
+Inv-loop count w end u₀ i₀ u i = end ≤ 256
+
+abbrev μ-loop : tie.MeasureT-loop
+μ-loop count w end u₀ i₀ u i = end - i
+
+least-requires : tie.Need-least-requires Inv-loop μ-loop
+least-requires c κs = search needs
+
+loop-holds : tie.Need-loop-holds Inv-loop μ-loop
+loop-holds c = search needs
+
+mul-w : tie.Need-mul-w Inv-loop μ-loop
+mul-w c = search needs
+
+element-set-from-w : tie.Need-element-set-from-w Inv-loop μ-loop
+element-set-from-w c = search needs
+
+add-i : tie.Need-add-i Inv-loop μ-loop
+add-i c = search needs
+
+loop-less : tie.Need-loop-less Inv-loop μ-loop
+loop-less c = search needs
+
+loop-again : tie.Need-loop-again Inv-loop μ-loop
+loop-again c = search needs
+
+returns : tie.Need-returns Inv-loop μ-loop
+returns c = search needs
+
+pub with-reduces-spec : {M : Type 1} → statement M
+with-reduces-spec =
+    tie.close
+    (tie.spec
+    Inv-loop
+    μ-loop
+    least-requires
+    loop-holds
+    mul-w
+    element-set-from-w
+    add-i
+    loop-less
+    loop-again
+    returns)

@@ -1,0 +1,14 @@
+// The vectors of document 01: each line of the input makes a table by hand, changes it, and tries an event on it.
+// What is printed is the line's label and the number that was given back. The head of the input says what its words mean.
+mod change; // change.rt: a table with one thing changed
+mod command; // command.rt: a command, read byte by byte
+mod desk; // desk.rt: the table at hand, and what a command does to it
+mod lines; // lines.rt: the lines of the input
+mod same; // same.rt: whether a refused table came back as it was
+mod words; // words.rt: the words of the commands
+
+fn main() {
+    let mut text = io::large_buffer();
+    let n = io::read_full(0, &mut text);
+    lines::take_all(&text[..n]);
+}
