@@ -15,7 +15,6 @@ use Rattle.room.specs.Record.{blankRoom, withToken}
 use Rattle.table.specs.declared.Table.{Table}
 use Rattle.table.specs.declared.Wire.{Wire}
 use Rattle.table.specs.declared.Found.the-variants as found
-use Rattle.table.specs.Limits.{queueLimit, wireLimit}
 use Rattle.table.specs.Tables.{noWire, messagesOf, emptyTable, freshTable, blankTable, freshOf, answer}
 use Rattle.table.specs.Oldest.{between, oldestIn, oldestOf}
 

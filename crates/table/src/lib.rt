@@ -1,4 +1,4 @@
-// The table by value: rooms, queue and messages; the fresh table; the search for the oldest message; the test of well-formedness.
+// The table by value: rooms, queue and messages; the fresh table; the search for the oldest message.
 ghost use mathlib.Core.Path.{_≡_};
 ghost use Rattle.table.specs.Tables.{emptyTable, freshOf};
 ghost use Rattle.table.specs.Oldest.{oldestOf};

@@ -1,6 +1,6 @@
 use borrow.Author.Needs.{needs}
 use native.Mathlib.Omega.{arith}
-use mathlib.Core.Path.{_≡_, refl, sym, _∙_, ap}
+use mathlib.Core.Path.{_≡_, refl, _∙_, ap}
 use Rattle.act.specs.declared.Start.{Start}
 use Rattle.act.specs.Done.{startOf, doneOf}
 use mathlib.Core.Logic.{⊎-elim}
@@ -19,12 +19,6 @@ use Rattle.step.proofs.Refused.{refused-room, ask-below, ask-above, ask
 use Rattle.step.proofs.Steps.{room-low, refused-plans, plans-same, ask-plans}
 use Rattle.step.proofs.ask.Statement.{statement}
 use Rattle.step.proofs.ask.Tie as tie
-use Rattle.step.proofs.ask.Reads as reads
-use Rattle.step.proofs.ask.Lts as lts
-use Rattle.act.proofs.ask.Reads as ask-reads
-use Rattle.step.proofs.plan.made.Reads as made-reads
-use Rattle.step.proofs.plan.refused.Reads as refused-reads
-use Rattle.step.proofs.plan.start.Reads as start-reads
 
 -- the counter of room c is not worn
 abbrev fresh : Table → ℕ → Bool
@@ -36,11 +30,9 @@ Inv-loop e t mode x room n i₀ i = (i ≤ n) × (allBelow i (fresh t) ≡ true)
 abbrev μ-loop : tie.MeasureT-loop
 μ-loop e t mode x room n i₀ i = n - i
 
--- src/lib.rt:43:9
 refused-requires : tie.Need-refused-requires Inv-loop μ-loop
 refused-requires c κs = search needs
 
--- src/lib.rt:43:9
 returns : tie.Need-returns Inv-loop μ-loop
 returns c =
     let s = c .before .before .before in
@@ -48,11 +40,9 @@ returns c =
     let e = s .args .e in
     refused-plans t e 3 (λ q. omega arith) (refused-room t e (s .pre .0) (omega arith) (omega arith)) _ (c .refused .ensures)
 
--- src/lib.rt:48:14
 refused-requires-2 : tie.Need-refused-requires-2 Inv-loop μ-loop
 refused-requires-2 c κs = search needs
 
--- src/lib.rt:48:14
 returns-2 : tie.Need-returns-2 Inv-loop μ-loop
 returns-2 c =
     let s = c .before .before .before .before in
@@ -60,15 +50,12 @@ returns-2 c =
     let e = s .args .e in
     refused-plans t e 4 (λ q. omega arith) (⊎-elim (λ w. ask-below t e (s .pre .0) (s .pre .1) (omega arith) (omega arith)) (λ w. ask-above t e (s .pre .0) (s .pre .1) (omega arith) (omega arith)) (c .before .if2 .came)) _ (c .refused2 .ensures)
 
--- src/lib.rt:50:13
 cast-x : tie.Need-cast-x Inv-loop μ-loop
 cast-x c = search needs
 
--- src/lib.rt:51:16
 mul-room : tie.Need-mul-room Inv-loop μ-loop
 mul-room c = search needs
 
--- src/lib.rt:51:16
 element-copy-out-room : tie.Need-element-copy-out-room Inv-loop μ-loop
 element-copy-out-room c =
     let s = c .before .before .before .before .before in
@@ -77,11 +64,9 @@ element-copy-out-room c =
     let shape = shaped t (s .good .0) in
     room-low t shape (s .pre .0) (e .room) (omega arith)
 
--- src/lib.rt:53:9
 refused-requires-3 : tie.Need-refused-requires-3 Inv-loop μ-loop
 refused-requires-3 c κs = search needs
 
--- src/lib.rt:53:9
 returns-3 : tie.Need-returns-3 Inv-loop μ-loop
 returns-3 c =
     let s = c .before .before .before .before .before .before .before .before .before in
@@ -89,11 +74,9 @@ returns-3 c =
     let e = s .args .e in
     refused-plans t e 5 (λ q. omega arith) (ask-waiting t e (s .pre .0) (s .pre .1) (omega arith) (omega arith) (omega arith) (c .before .if4 .taken)) _ (c .refused3 .ensures)
 
--- src/lib.rt:56:9
 refused-requires-4 : tie.Need-refused-requires-4 Inv-loop μ-loop
 refused-requires-4 c κs = search needs
 
--- src/lib.rt:56:9
 returns-4 : tie.Need-returns-4 Inv-loop μ-loop
 returns-4 c =
     let s = c .before .before .before .before .before .before .before .before .before .before .before in
@@ -101,11 +84,9 @@ returns-4 c =
     let e = s .args .e in
     refused-plans t e 6 (λ q. omega arith) (ask-held t e (s .pre .0) (s .pre .1) (omega arith) (omega arith) (omega arith) (omega arith) (c .before .if5 .taken)) _ (c .refused4 .ensures)
 
--- src/lib.rt:59:9
 refused-requires-5 : tie.Need-refused-requires-5 Inv-loop μ-loop
 refused-requires-5 c κs = search needs
 
--- src/lib.rt:59:9
 returns-5 : tie.Need-returns-5 Inv-loop μ-loop
 returns-5 c =
     let s = c .before .before .before .before .before .before .before .before .before .before .before .before in
@@ -113,19 +94,15 @@ returns-5 c =
     let e = s .args .e in
     refused-plans t e 9 (λ q. omega arith) (ask-busy t e (s .pre .0) (s .pre .1) (omega arith) (omega arith) (omega arith) (omega arith) (omega arith) (omega arith)) _ (c .refused5 .ensures)
 
--- src/lib.rt:61:13
 cast-n : tie.Need-cast-n Inv-loop μ-loop
 cast-n c = search needs
 
--- src/lib.rt:63:5
 loop-holds : tie.Need-loop-holds Inv-loop μ-loop
 loop-holds c = (search needs, refl)
 
--- src/lib.rt:64:17
 mul-r : tie.Need-mul-r Inv-loop μ-loop
 mul-r c = search needs
 
--- src/lib.rt:64:17
 element-copy-out-r : tie.Need-element-copy-out-r Inv-loop μ-loop
 element-copy-out-r c =
     let s = c .before .before .before .before .before .before .before .before .before .before .before .before .before in
@@ -134,11 +111,9 @@ element-copy-out-r c =
     let shape = shaped t (s .good .0) in
     room-low t shape (s .pre .0) (c .before .loop .i) (omega arith)
 
--- src/lib.rt:66:13
 refused-requires-6 : tie.Need-refused-requires-6 Inv-loop μ-loop
 refused-requires-6 c κs = search needs
 
--- src/lib.rt:66:13
 returns-6 : tie.Need-returns-6 Inv-loop μ-loop
 returns-6 c =
     let s = c .before .before .before .before .before .before .before .before .before .before .before .before .before .before .before .before .before in
@@ -148,15 +123,12 @@ returns-6 c =
     refused-plans t e 10 (λ q. omega arith) (ask-worn t e (s .pre .0) (s .pre .1) (c .before .before .before .before .before .before .before .before .before .before .before .before .before .before .before .if1 .left) (c .before .before .before .before .before .before .before .before .before .before .before .before .before .before .if2 .left) (omega (arith, c .before .before .before .before .before .before .before .before .before .before .before .before .before .if3 .taken)) (c .before .before .before .before .before .before .before .before .before .if4 .left) (c .before .before .before .before .before .before .before .if5 .left) (c .before .before .before .before .before .before .if6 .left)
     (all-fails (fresh t) (t .n) (k .i) (c .before .before .before .before .loop-test .taken) (le-ltb _ _ (c .before .if7 .taken)))) _ (c .refused6 .ensures)
 
--- src/lib.rt:68:9
 add-i : tie.Need-add-i Inv-loop μ-loop
 add-i c = search needs
 
--- src/lib.rt:63:5
 loop-less : tie.Need-loop-less Inv-loop μ-loop
 loop-less c = search needs
 
--- src/lib.rt:63:5
 loop-again : tie.Need-loop-again Inv-loop μ-loop
 loop-again c =
     let s = c .before .before .before .before .before .before .before .before .before .before .before .before .before .before .before .before in
@@ -165,19 +137,15 @@ loop-again c =
     let k = c .before .before .before .before .loop in
     (omega arith, all-more (fresh t) (k .i) (k .inv .1) (lt-ltb _ _ (c .if7 .left)))
 
--- src/lib.rt:71:9
 start-requires : tie.Need-start-requires Inv-loop μ-loop
 start-requires c κs = search needs
 
--- src/lib.rt:72:9
 ask-requires : tie.Need-ask-requires Inv-loop μ-loop
 ask-requires c κs = search needs
 
--- src/lib.rt:73:5
 made-requires : tie.Need-made-requires Inv-loop μ-loop
 made-requires c κs = search needs
 
--- src/lib.rt:38:1
 returns-7 : tie.Need-returns-7 Inv-loop μ-loop
 returns-7 c =
     let s = c .before .before .before .before .before .before .before .before .before .before .before .before .before .before .before .before .before in

@@ -1,5 +1,5 @@
 use native.Mathlib.Omega.{arith}
-use mathlib.Core.Path.{_≡_, refl, sym, _∙_, ap}
+use mathlib.Core.Path.{_≡_, sym, _∙_, ap}
 use Rattle.act.specs.declared.Start.{Start}
 use Rattle.act.specs.Done.{startOf, doneOf}
 use Rattle.rules.specs.Rules as rules
@@ -10,19 +10,10 @@ use Rattle.step.proofs.Steps.{room-low, refused-plans, plans-same, deli
 use borrow.Author.Needs.{needs}
 use Rattle.step.proofs.deliver.Statement.{statement}
 use Rattle.step.proofs.deliver.Tie as tie
-use Rattle.step.proofs.deliver.Reads as reads
-use Rattle.step.proofs.deliver.Lts as lts
-use Rattle.act.proofs.receive.Reads as receive-reads
-use Rattle.step.proofs.plan.made.Reads as made-reads
-use Rattle.step.proofs.plan.refused.Reads as refused-reads
-use Rattle.step.proofs.plan.start.Reads as start-reads
-use Rattle.table.proofs.oldest.Reads as oldest-reads
 
--- src/lib.rt:126:9
 refused-requires : tie.Need-refused-requires
 refused-requires c κs = search needs
 
--- src/lib.rt:126:9
 returns : tie.Need-returns
 returns c =
     let s = c .before .before .before in
@@ -30,11 +21,9 @@ returns c =
     let e = s .args .e in
     refused-plans t e 3 (λ q. omega arith) (refused-room t e (s .pre .0) (omega arith) (omega arith)) _ (c .refused .ensures)
 
--- src/lib.rt:129:9
 refused-requires-2 : tie.Need-refused-requires-2
 refused-requires-2 c κs = search needs
 
--- src/lib.rt:129:9
 returns-2 : tie.Need-returns-2
 returns-2 c =
     let s = c .before .before .before .before .before in
@@ -42,23 +31,18 @@ returns-2 c =
     let e = s .args .e in
     refused-plans t e 3 (λ q. omega arith) (deliver-to t e (s .pre .0) (s .pre .1) (omega arith) (omega arith)) _ (c .refused2 .ensures)
 
--- src/lib.rt:131:40
 oldest-requires : tie.Need-oldest-requires
 oldest-requires c κs = search needs
 
--- src/lib.rt:131:21
 enum-known-place : tie.Need-enum-known-place
 enum-known-place c = search needs
 
--- src/lib.rt:132:9
 enum-told : tie.Need-enum-told
 enum-told c = search needs
 
--- src/lib.rt:132:9
 refused-requires-3 : tie.Need-refused-requires-3
 refused-requires-3 c κs = search needs
 
--- src/lib.rt:132:9
 returns-3 : tie.Need-returns-3
 returns-3 c =
     let s = c .before .before .before .before .before .before .before .before in
@@ -66,15 +50,12 @@ returns-3 c =
     let e = s .args .e in
     refused-plans t e 8 (λ q. omega arith) (deliver-empty t e (s .pre .0) (s .pre .1) (c .before .before .before .before .before .before .if1 .left) (c .before .before .before .before .if2 .left) _ (c .before .before .before .oldest .ensures) (c .before .enum-told .given .1)) _ (c .refused3 .ensures)
 
--- src/lib.rt:134:13
 cast-b : tie.Need-cast-b
 cast-b c = search needs
 
--- src/lib.rt:135:16
 mul-room : tie.Need-mul-room
 mul-room c = search needs
 
--- src/lib.rt:135:16
 element-copy-out-room : tie.Need-element-copy-out-room
 element-copy-out-room c =
     let s = c .before .before .before .before .before .before .before .before .before in
@@ -83,19 +64,15 @@ element-copy-out-room c =
     let shape = shaped t (s .good .0) in
     room-low t shape (s .pre .0) (e .other) (omega arith)
 
--- src/lib.rt:137:9
 start-requires : tie.Need-start-requires
 start-requires c κs = search needs
 
--- src/lib.rt:138:9
 receive-requires : tie.Need-receive-requires
 receive-requires c κs = search needs
 
--- src/lib.rt:139:5
 made-requires : tie.Need-made-requires
 made-requires c κs = search needs
 
--- src/lib.rt:121:1
 returns-4 : tie.Need-returns-4
 returns-4 c =
     let s = c .before .before .before .before .before .before .before .before .before .before .before .before .before .before in

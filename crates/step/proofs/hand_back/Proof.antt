@@ -1,5 +1,5 @@
 use native.Mathlib.Omega.{arith}
-use mathlib.Core.Path.{_≡_, refl, sym, _∙_, ap}
+use mathlib.Core.Path.{_≡_, _∙_, ap}
 use Rattle.act.specs.declared.Start.{Start}
 use Rattle.act.specs.Done.{startOf, doneOf}
 use Rattle.rules.specs.Rules as rules
@@ -10,18 +10,10 @@ use Rattle.step.proofs.Steps.{room-low, refused-plans, plans-same, back
 use borrow.Author.Needs.{needs}
 use Rattle.step.proofs.hand_back.Statement.{statement}
 use Rattle.step.proofs.hand_back.Tie as tie
-use Rattle.step.proofs.hand_back.Reads as reads
-use Rattle.step.proofs.hand_back.Lts as lts
-use Rattle.act.proofs.hand_back.Reads as hand-back-reads
-use Rattle.step.proofs.plan.made.Reads as made-reads
-use Rattle.step.proofs.plan.refused.Reads as refused-reads
-use Rattle.step.proofs.plan.start.Reads as start-reads
 
--- src/lib.rt:104:9
 refused-requires : tie.Need-refused-requires
 refused-requires c κs = search needs
 
--- src/lib.rt:104:9
 returns : tie.Need-returns
 returns c =
     let s = c .before .before .before in
@@ -29,15 +21,12 @@ returns c =
     let e = s .args .e in
     refused-plans t e 3 (λ q. omega arith) (refused-room t e (s .pre .0) (omega arith) (omega arith)) _ (c .refused .ensures)
 
--- src/lib.rt:106:13
 cast-x : tie.Need-cast-x
 cast-x c = search needs
 
--- src/lib.rt:107:16
 mul-room : tie.Need-mul-room
 mul-room c = search needs
 
--- src/lib.rt:107:16
 element-copy-out-room : tie.Need-element-copy-out-room
 element-copy-out-room c =
     let s = c .before .before .before in
@@ -46,11 +35,9 @@ element-copy-out-room c =
     let shape = shaped t (s .good .0) in
     room-low t shape (s .pre .0) (e .room) (omega arith)
 
--- src/lib.rt:109:9
 refused-requires-2 : tie.Need-refused-requires-2
 refused-requires-2 c κs = search needs
 
--- src/lib.rt:109:9
 returns-2 : tie.Need-returns-2
 returns-2 c =
     let s = c .before .before .before .before .before .before .before in
@@ -58,11 +45,9 @@ returns-2 c =
     let e = s .args .e in
     refused-plans t e 5 (λ q. omega arith) (back-waiting t e (s .pre .0) (s .pre .1) (omega arith) (c .before .if2 .taken)) _ (c .refused2 .ensures)
 
--- src/lib.rt:112:9
 refused-requires-3 : tie.Need-refused-requires-3
 refused-requires-3 c κs = search needs
 
--- src/lib.rt:112:9
 returns-3 : tie.Need-returns-3
 returns-3 c =
     let s = c .before .before .before .before .before .before .before .before .before in
@@ -70,19 +55,15 @@ returns-3 c =
     let e = s .args .e in
     refused-plans t e 7 (λ q. omega arith) (back-empty t e (s .pre .0) (s .pre .1) (omega arith) (omega arith) (c .before .if3 .taken)) _ (c .refused3 .ensures)
 
--- src/lib.rt:115:9
 start-requires : tie.Need-start-requires
 start-requires c κs = search needs
 
--- src/lib.rt:116:9
 hand-back-requires : tie.Need-hand-back-requires
 hand-back-requires c κs = search needs
 
--- src/lib.rt:117:5
 made-requires : tie.Need-made-requires
 made-requires c κs = search needs
 
--- src/lib.rt:99:1
 returns-4 : tie.Need-returns-4
 returns-4 c =
     let s = c .before .before .before .before .before .before .before .before .before .before .before .before in

@@ -4,32 +4,22 @@ use Rattle.table.proofs.Laws.{fresh-done, fresh-low, fresh-high}
 use borrow.Author.Needs.{needs}
 use Rattle.table.proofs.fresh.Statement.{statement}
 use Rattle.table.proofs.fresh.Tie as tie
-use Rattle.table.proofs.fresh.Reads as reads
-use Rattle.table.proofs.fresh.Lts as lts
-use Rattle.room.proofs.Room.blank.Reads as blank-reads
-use Rattle.table.proofs.laid.Reads as laid-reads
 
--- src/lib.rt:78:9
 blank-requires : tie.Need-blank-requires
 blank-requires c κs = search needs
 
--- src/lib.rt:82:13
 way-write-given-rooms : tie.Need-way-write-given-rooms
 way-write-given-rooms c = search needs
 
--- src/lib.rt:85:24
 laid-requires : tie.Need-laid-requires
 laid-requires c κs = search needs
 
--- src/lib.rt:90:20
 laid-requires-2 : tie.Need-laid-requires-2
 laid-requires-2 c κs = search needs
 
--- src/lib.rt:75:1
 returns : tie.Need-returns
 returns c = fresh-done _ _ (c .before .before .before .before .blank .ensures) _ (omega arith) (omega arith) (c .laid .ensures)
 
--- src/lib.rt:75:1
 returns-2 : tie.Need-returns-2
 returns-2 c =
     ⊎-elim (λ w. fresh-low _ _ (c .before .before .blank .ensures) _ (c .laid2 .ensures) (omega arith))

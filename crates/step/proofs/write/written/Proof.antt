@@ -8,10 +8,6 @@ use Rattle.step.proofs.Known.{plan-out-long}
 use Rattle.step.proofs.Ending.{target, Mid, mid-start, mid-more, goal-moved, goal-sent, goal-past, written-is}
 use Rattle.step.proofs.write.written.Statement.{statement}
 use Rattle.step.proofs.write.written.Tie as tie
-use Rattle.step.proofs.write.written.Reads as reads
-use Rattle.step.proofs.write.written.Lts as lts
-use Rattle.step.proofs.write.later.Reads as later-reads
-use Rattle.step.proofs.write.shorter.Reads as shorter-reads
 
 abbrev Inv-loop : tie.InvT-loop
 Inv-loop d gap old kept count u₀ end i₀ u i =
@@ -20,35 +16,27 @@ Inv-loop d gap old kept count u₀ end i₀ u i =
 abbrev μ-loop : tie.MeasureT-loop
 μ-loop d gap old kept count u₀ end i₀ u i = end - i
 
--- src/write.rt:47:16
 sub-kept : tie.Need-sub-kept Inv-loop μ-loop
 sub-kept c = search needs
 
--- src/write.rt:48:17
 add-count : tie.Need-add-count Inv-loop μ-loop
 add-count c = search needs
 
--- src/write.rt:50:9
 shorter-requires : tie.Need-shorter-requires Inv-loop μ-loop
 shorter-requires c κs = search needs
 
--- src/write.rt:52:13
 cast-room : tie.Need-cast-room Inv-loop μ-loop
 cast-room c = search needs
 
--- src/write.rt:52:5
 mul-room : tie.Need-mul-room Inv-loop μ-loop
 mul-room c = search needs
 
--- src/write.rt:52:5
 element-set-from-room : tie.Need-element-set-from-room Inv-loop μ-loop
 element-set-from-room c = search needs
 
--- src/write.rt:56:9
 later-requires : tie.Need-later-requires Inv-loop μ-loop
 later-requires c κs = search needs
 
--- src/write.rt:58:5
 loop-holds : tie.Need-loop-holds Inv-loop μ-loop
 loop-holds c =
     let s = c .before .before .before .before .before .before in
@@ -58,59 +46,45 @@ loop-holds c =
     let far = plan-out-long p (s .good .1 .0) in
     (omega arith, omega arith, mid-start t (p .me) (p .place) (p .gap) (s .pre .0) long (p .done) (omega arith) _ _)
 
--- src/write.rt:60:29
 add-w : tie.Need-add-w Inv-loop μ-loop
 add-w c = search needs
 
--- src/write.rt:60:21
 mul-w : tie.Need-mul-w Inv-loop μ-loop
 mul-w c = search needs
 
--- src/write.rt:60:21
 element-copy-out-w : tie.Need-element-copy-out-w Inv-loop μ-loop
 element-copy-out-w c = search needs
 
--- src/write.rt:61:13
 mul-w-2 : tie.Need-mul-w-2 Inv-loop μ-loop
 mul-w-2 c = search needs
 
--- src/write.rt:61:13
 element-set-from-w : tie.Need-element-set-from-w Inv-loop μ-loop
 element-set-from-w c = search needs
 
--- src/write.rt:63:21
 mul-w-3 : tie.Need-mul-w-3 Inv-loop μ-loop
 mul-w-3 c = search needs
 
--- src/write.rt:63:21
 element-copy-out-w-2 : tie.Need-element-copy-out-w-2 Inv-loop μ-loop
 element-copy-out-w-2 c = search needs
 
--- src/write.rt:64:13
 mul-w-4 : tie.Need-mul-w-4 Inv-loop μ-loop
 mul-w-4 c = search needs
 
--- src/write.rt:64:13
 element-set-from-w-2 : tie.Need-element-set-from-w-2 Inv-loop μ-loop
 element-set-from-w-2 c = search needs
 
--- src/write.rt:66:13
 mul-t38 : tie.Need-mul-t38 Inv-loop μ-loop
 mul-t38 c = search needs
 
--- src/write.rt:66:13
 element-set-from-u : tie.Need-element-set-from-u Inv-loop μ-loop
 element-set-from-u c = search needs
 
--- src/write.rt:72:9
 add-i : tie.Need-add-i Inv-loop μ-loop
 add-i c = search needs
 
--- src/write.rt:58:5
 loop-less : tie.Need-loop-less Inv-loop μ-loop
 loop-less c = search needs
 
--- src/write.rt:58:5
 loop-again : tie.Need-loop-again Inv-loop μ-loop
 loop-again c =
     let s = c .before .before .before .before .before .before .before .before .before in
@@ -129,7 +103,6 @@ loop-again c =
           (c .if1 .came),
     )
 
--- src/write.rt:40:1
 returns : tie.Need-returns Inv-loop μ-loop
 returns c =
     let s = c .before .before .before .before .before .before .before .before in
