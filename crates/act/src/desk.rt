@@ -1,5 +1,5 @@
 // What one room does in a step, on a desk of its own: its record, the queue, and the messages that it sends.
-// The table is written only once the step is known to be made.
+// The table is written only once the step is known to be made. The module is private: only proved callers use it.
 ghost use mathlib.Core.Path.{_≡_};
 ghost use mathlib.Core.Bool.{_||_};
 ghost use Prim.Native.Nat.{_<_, _≤_};

@@ -9,6 +9,7 @@ use Rattle.modes.specs.Codes.{U}
 use Rattle.table.specs.declared.Table.{Table}
 use Rattle.table.specs.declared.Found.{Found}
 use Rattle.table.specs.declared.Found.the-variants as found
+use Rattle.table.specs.Numbers.{DONE, TABLE, EVENT, ROOM, MODE, WAITING, HELD, NOT-HELD, EMPTY, BUSY, WORN}
 use Rattle.table.specs.Tables.{roomAt}
 use Rattle.table.specs.Oldest.{oldestOf}
 use Rattle.table.specs.Formed.{wellFormed, isMode}
@@ -24,9 +25,9 @@ pub record Row : Type 0 where
 abbrev pub row : ℕ → Bool → Row
 row k b = record { «number» = k; given = b }
 
--- the first number that applies; 0 where none does
+-- the first number that applies; DONE where none does
 unfoldable pub first : List Row → ℕ
-first [] = 0
+first [] = DONE
 first (r ∷ rows) = if r .given then r .«number» else first rows
 
 unfoldable pub isFound : Found → Bool
@@ -39,16 +40,16 @@ anyWorn t = not (allBelow (t .n) (λ c. ltb (roomAt t c .counter) wornLimit))
 
 unfoldable pub refusals : Table → Event → List Row
 refusals t e =
-    row 1 (not (wellFormed t))
-    ∷ row 2 (not (isAsk e || isUpgrade e || isHandBack e || isDeliver e))
-    ∷ row 3 (leb (t .n) (e .room) || isDeliver e && leb (t .n) (e .other))
-    ∷ row 4 (isAsk e && not (isMode (e .mode)))
-    ∷ row 5 (not (isDeliver e) && not (eqb (roomAt t (e .room) .wanted) 0))
-    ∷ row 6 (isAsk e && not (eqb (roomAt t (e .room) .held) 0))
-    ∷ row 7 (isHandBack e && eqb (roomAt t (e .room) .held) 0 || isUpgrade e && not (eqb (roomAt t (e .room) .held) U))
-    ∷ row 8 (isDeliver e && not (isFound (oldestOf t (e .room) (e .other))))
-    ∷ row 9 (isAsk e && leb busyLimit (t .count))
-    ∷ row 10 (isAsk e && anyWorn t)
+    row TABLE (not (wellFormed t))
+    ∷ row EVENT (not (isAsk e || isUpgrade e || isHandBack e || isDeliver e))
+    ∷ row ROOM (leb (t .n) (e .room) || isDeliver e && leb (t .n) (e .other))
+    ∷ row MODE (isAsk e && not (isMode (e .mode)))
+    ∷ row WAITING (not (isDeliver e) && not (eqb (roomAt t (e .room) .wanted) 0))
+    ∷ row HELD (isAsk e && not (eqb (roomAt t (e .room) .held) 0))
+    ∷ row NOT-HELD (isHandBack e && eqb (roomAt t (e .room) .held) 0 || isUpgrade e && not (eqb (roomAt t (e .room) .held) U))
+    ∷ row EMPTY (isDeliver e && not (isFound (oldestOf t (e .room) (e .other))))
+    ∷ row BUSY (isAsk e && leb busyLimit (t .count))
+    ∷ row WORN (isAsk e && anyWorn t)
     ∷ []
 
 unfoldable pub refusal : Table → Event → ℕ

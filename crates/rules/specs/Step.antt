@@ -12,6 +12,7 @@ use Rattle.table.specs.declared.Answer.{Answer}
 use Rattle.table.specs.declared.Found.{Found}
 use Rattle.table.specs.declared.Found.the-variants as found
 use Rattle.table.specs.Limits.{queueLimit, wireLimit}
+use Rattle.table.specs.Numbers.{DONE, EMPTY, WORN, FULL}
 use Rattle.table.specs.Tables.{noWire, noQueued, messagesOf, answer}
 use Rattle.table.specs.Oldest.{oldestOf}
 use Rattle.rules.specs.declared.Event.{Event}
@@ -36,13 +37,13 @@ after t kept w =
 -- "All but 0 return the table as it came."
 unfoldable pub outcome : Table → List Wire → Work → Answer
 outcome t kept w =
-    if w .worn then answer 10 t
-    else if ltb wireLimit (length (kept ++ w .sent)) then answer 11 t
-    else answer 0 (after t kept w)
+    if w .worn then answer WORN t
+    else if ltb wireLimit (length (kept ++ w .sent)) then answer FULL t
+    else answer DONE (after t kept w)
 
 -- "DELIVER(a, b) takes the oldest message from a to b"
 unfoldable pub delivered : Table → ℕ → ℕ → Found → Answer
-delivered t a b found.Nothing = answer 8 t
+delivered t a b found.Nothing = answer EMPTY t
 delivered t a b (found.At k m) = outcome t (remove k (messagesOf t)) (receive (workAt t b) a m)
 
 unfoldable pub made : Table → Event → Answer
@@ -53,4 +54,4 @@ made t e =
     else delivered t (e .room) (e .other) (oldestOf t (e .room) (e .other))
 
 unfoldable pub stepOf : Table → Event → Answer
-stepOf t e = if eqb (refusal t e) 0 then made t e else answer (refusal t e) t
+stepOf t e = if eqb (refusal t e) DONE then made t e else answer (refusal t e) t

@@ -11,6 +11,7 @@ use Rattle.room.specs.Record.{blankRoom}
 use Rattle.table.specs.declared.Queued.{Queued}
 use Rattle.table.specs.declared.Table.{Table}
 use Rattle.table.specs.Limits.{queueLimit, wireLimit}
+use Rattle.table.specs.Numbers.{DONE, WORN, FULL}
 use Rattle.table.specs.Tables.{noWire, noQueued, answer}
 use Rattle.rules.specs.declared.Event.{Event}
 use Rattle.rules.specs.Work.{Work}
@@ -41,9 +42,9 @@ refusedPlan k = record { «number» = k; me = 0; place = 0; gap = 0; done = idle
 unfoldable pub endingOf : ℕ → Plan → ℕ
 endingOf count p =
     if not (eqb (p .«number») 0) then p .«number»
-    else if p .done .worn then 10
-    else if ltb (wireLimit - (count - p .gap)) (p .done .sent) then 11
-    else 0
+    else if p .done .worn then WORN
+    else if ltb (wireLimit - (count - p .gap)) (p .done .sent) then FULL
+    else DONE
 
 -- a plan to make the step: the work that was done, and that its outcome is the step
 pub record Made (t : Table) (e : Event) (p : Plan) : Type 0 where

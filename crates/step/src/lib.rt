@@ -18,6 +18,7 @@ use rules::Event;
 use table::Answer;
 use table::Found;
 use table::Table;
+use table::numbers;
 use write::written;
 
 // The kinds of events.
@@ -30,9 +31,9 @@ pub const HANDBACK: u8 = 2;
 pub const DELIVER: u8 = 3;
 
 // An ASK is refused from this many messages on the wires,
-pub const BUSY: usize = 96;
+pub const BUSY_MESSAGES: usize = 96;
 // and from this counter on.
-pub const WORN: u32 = 4294967000;
+pub const WORN_COUNTER: u32 = 4294967000;
 
 // ASK.
 fn ask(t: Table, e: Event) -> Plan
@@ -40,30 +41,30 @@ fn ask(t: Table, e: Event) -> Plan
     ensures { λ p. ⌜ Plans t e p ⌝ }
 {
     if e.room >= t.n {
-        return refused(3);
+        return refused(numbers::ROOM);
     }
     let mode = e.mode;
     match mode {
         modes::IR..=modes::W => {}
-        _ => return refused(4),
+        _ => return refused(numbers::MODE),
     }
     let x = e.room as usize;
     let room = t.rooms[x];
     if room.wanted != modes::NONE {
-        return refused(5);
+        return refused(numbers::WAITING);
     }
     if room.held != modes::NONE {
-        return refused(6);
+        return refused(numbers::HELD);
     }
-    if t.count >= BUSY {
-        return refused(9);
+    if t.count >= BUSY_MESSAGES {
+        return refused(numbers::BUSY);
     }
     let n = t.n as usize;
     let mut i: usize = 0;
     while i < n {
         let r = t.rooms[i];
-        if r.counter >= WORN {
-            return refused(10);
+        if r.counter >= WORN_COUNTER {
+            return refused(numbers::WORN);
         }
         i += 1;
     }
@@ -79,15 +80,15 @@ fn upgrade(t: Table, e: Event) -> Plan
     ensures { λ p. ⌜ Plans t e p ⌝ }
 {
     if e.room >= t.n {
-        return refused(3);
+        return refused(numbers::ROOM);
     }
     let x = e.room as usize;
     let room = t.rooms[x];
     if room.wanted != modes::NONE {
-        return refused(5);
+        return refused(numbers::WAITING);
     }
     if room.held != modes::U {
-        return refused(7);
+        return refused(numbers::NOT_HELD);
     }
     let queue = t.queue;
     let s = start(e.room, room, queue, t.queued);
@@ -101,15 +102,15 @@ fn hand_back(t: Table, e: Event) -> Plan
     ensures { λ p. ⌜ Plans t e p ⌝ }
 {
     if e.room >= t.n {
-        return refused(3);
+        return refused(numbers::ROOM);
     }
     let x = e.room as usize;
     let room = t.rooms[x];
     if room.wanted != modes::NONE {
-        return refused(5);
+        return refused(numbers::WAITING);
     }
     if room.held == modes::NONE {
-        return refused(7);
+        return refused(numbers::NOT_HELD);
     }
     let queue = t.queue;
     let s = start(e.room, room, queue, t.queued);
@@ -123,13 +124,13 @@ fn deliver(t: Table, e: Event) -> Plan
     ensures { λ p. ⌜ Plans t e p ⌝ }
 {
     if e.room >= t.n {
-        return refused(3);
+        return refused(numbers::ROOM);
     }
     if e.other >= t.n {
-        return refused(3);
+        return refused(numbers::ROOM);
     }
     let Found::At { place, message } = table::oldest(t, e.room, e.other) else {
-        return refused(8);
+        return refused(numbers::EMPTY);
     };
     let b = e.other as usize;
     let room = t.rooms[b];
@@ -144,7 +145,7 @@ fn planned(t: Table, e: Event) -> Plan
     ensures { λ p. ⌜ Plans t e p ⌝ }
 {
     if !formed::well_formed(t) {
-        return refused(1);
+        return refused(numbers::TABLE);
     }
     let kind = e.kind;
     match kind {
@@ -152,7 +153,7 @@ fn planned(t: Table, e: Event) -> Plan
         UPGRADE => upgrade(t, e),
         HANDBACK => hand_back(t, e),
         DELIVER => deliver(t, e),
-        4..=255 => refused(2),
+        4..=255 => refused(numbers::EVENT),
     }
 }
 

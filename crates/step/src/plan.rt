@@ -1,4 +1,4 @@
-// What a step is going to do, before anything is written.
+// What a step is going to do, before anything is written. The module is private: only proved callers use it.
 ghost use mathlib.Core.Path.{_≡_};
 ghost use Prim.Native.Nat.{_≤_};
 ghost use Rattle.table.specs.Limits.{wireLimit};
@@ -13,6 +13,7 @@ use table::QUEUE;
 use table::Queued;
 use table::WIRES;
 use table::Wire;
+use table::numbers;
 
 // A refusal's number; or 0 and what room me has done, with gap many messages at place taken out.
 pub struct Plan {
@@ -40,7 +41,7 @@ pub fn made(me: u8, place: usize, gap: usize, done: Done) -> Plan
     ensures { λ p. ⌜ p ≡ madePlan me place gap done ⌝ }
 {
     Plan {
-        number: 0,
+        number: numbers::DONE,
         me: me,
         place: place,
         gap: gap,
@@ -75,23 +76,23 @@ pub fn refused(number: u8) -> Plan
     }
 }
 
-// The number that is given back for a plan on a table with so many messages: its own, WORN, FULL or 0.
+// The number that is given back for a plan on a table with so many messages: its own, WORN, FULL or DONE.
 pub fn ending(count: usize, p: Plan) -> u8
     requires { ⌜ (p .«number» ≡ 0 → (p .gap ≤ count) × (count ≤ wireLimit)) ⌝ }
     ensures { λ r. ⌜ r ≡ endingOf count p ⌝ }
 {
     let number = p.number;
     match number {
-        0 => {}
+        numbers::DONE => {}
         1..=255 => return number,
     }
     let done = p.done;
     if done.worn {
-        return 10;
+        return numbers::WORN;
     }
     let kept = count - p.gap;
     if done.sent > WIRES - kept {
-        return 11;
+        return numbers::FULL;
     }
-    0
+    numbers::DONE
 }

@@ -1,4 +1,4 @@
-// The end of a step that is made: what a room has done is written into the table.
+// The end of a step that is made: what a room has done is written into the table. Private: only proved callers use it.
 ghost use mathlib.Core.Path.{_≡_};
 ghost use Prim.Native.Nat.{_+_, _-_, _≤_};
 ghost use lib.ListN.{take};
@@ -13,6 +13,7 @@ use table::QUEUE;
 use table::Queued;
 use table::Table;
 use table::Wire;
+use table::numbers;
 
 // The queue without the place that only a desk has.
 fn shorter(queue: [Queued; PLACES]) -> [Queued; QUEUE]
@@ -72,7 +73,7 @@ pub fn written(t: Table, p: Plan) -> Answer
         i += 1;
     }
     Answer {
-        number: 0,
+        number: numbers::DONE,
         table: u,
     }
 }

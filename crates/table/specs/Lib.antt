@@ -1,4 +1,5 @@
 pub mod Limits
+pub mod Numbers
 pub mod Tables
 pub mod Oldest
 pub mod Formed

@@ -13,6 +13,7 @@ use Rattle.table.specs.declared.Wire.{Wire}
 use Rattle.table.specs.declared.Queued.{Queued}
 use Rattle.table.specs.declared.Answer.{Answer}
 use Rattle.table.specs.declared.Message.the-variants as msg
+use Rattle.table.specs.Numbers.{DONE, ROOM}
 use Rattle.table.specs.Limits.{queueLimit, wireLimit}
 
 -- the one filler of a wire and of a queue place that is not in use
@@ -58,4 +59,4 @@ answer k t = record { «number» = k; table = t }
 
 -- "3 ROOM: .. a fresh table asked with n = 0 or above 16"
 unfoldable pub freshOf : ℕ → Answer
-freshOf n = if leb 1 n && leb n roomLimit then answer 0 (freshTable n) else answer 3 blankTable
+freshOf n = if leb 1 n && leb n roomLimit then answer DONE (freshTable n) else answer ROOM blankTable

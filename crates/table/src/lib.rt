@@ -3,6 +3,9 @@ ghost use mathlib.Core.Path.{_≡_};
 ghost use Rattle.table.specs.Tables.{emptyTable, freshOf};
 ghost use Rattle.table.specs.Oldest.{oldestOf};
 use room::ROOMS;
+
+pub mod numbers; // numbers.rt: the numbers given back
+
 use room::Room;
 
 // The places of the queue.
@@ -81,12 +84,12 @@ pub fn fresh(n: u8) -> Answer
         1..=16 => {
             rooms[0].token = true;
             Answer {
-                number: 0,
+                number: numbers::DONE,
                 table: laid(n, rooms),
             }
         }
         _ => Answer {
-            number: 3,
+            number: numbers::ROOM,
             table: laid(0, rooms),
         },
     }
