@@ -1,4 +1,4 @@
-// What each event does at the room's desk. Only the step calls these, on desks that it has laid out itself.
+// What each event does at the room's desk. The module is private: only proved callers use it, on desks that they have laid out.
 ghost use mathlib.Core.Path.{_≡_};
 ghost use Prim.Native.Nat.{_<_};
 ghost use Rattle.rules.specs.Rules as rules;

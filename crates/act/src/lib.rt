@@ -16,7 +16,7 @@ use table::Wire;
 
 // The places of a queue while a room acts: one may join a full one.
 pub const PLACES: usize = QUEUE + 1;
-// The messages that a room can send in one step: one for each place, and two.
+// The messages that a room can send in one step: one for each place, and a loan and a REDUCE, or a REDUCE alone, beside them.
 pub const OUTBOX: usize = PLACES + 2;
 
 // A room before it acts, and the queue.

@@ -8,6 +8,7 @@ use modes::NONE;
 use modes::R;
 use modes::U;
 use modes::W;
+use room::MOST_ROOMS;
 use table::QUEUE;
 use table::WIRES;
 
@@ -50,7 +51,7 @@ pub fn sizes_fit(n: u8, queued: usize, count: usize) -> bool
     ensures { λ b. ⌜ b ≡ sizesFit n queued count ⌝ }
 {
     match n {
-        1..=16 => queued <= QUEUE && count <= WIRES,
+        1..=MOST_ROOMS => queued <= QUEUE && count <= WIRES,
         _ => false,
     }
 }

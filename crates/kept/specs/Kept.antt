@@ -2,7 +2,7 @@
 -- "no REQUEST was begun by a room that has the token"; and a refused step leaves the table.
 use mathlib.Core.Path.{_≡_, refl, subst⁻¹}
 use mathlib.Core.Bool.{true}
-use mathlib.Core.List.{List, _++_}
+use mathlib.Core.List.{List, [], _∷_, _++_}
 use Prim.Native.Nat.{ℕ, _<_}
 use native.Mathlib.Omega.{arith}
 use lib.Dec.{ltb, eqb}
@@ -24,7 +24,7 @@ use Rattle.rules.specs.Work.{Work, workAt}
 use Rattle.rules.specs.Rules.{ask, upgrade, handBack, receive}
 use Rattle.rules.specs.Events.{isAsk, isUpgrade, isHandBack}
 use Rattle.rules.specs.Refusals.{refusal}
-use Rattle.rules.specs.Step.{outcome, delivered, made, stepOf}
+use Rattle.rules.specs.Step.{outcome, delivered, made, stepOf, runs}
 use Rattle.facts.specs.Shapes.{Shaped}
 use Rattle.facts.specs.Whole.{WellFormed, facts-of}
 use Rattle.kept.specs.Moment.{NoOwnRequest}
@@ -111,3 +111,9 @@ step-lawful t e l =
     split (eqb (stepOf t e .«number») 0)
     (λ z. kept t e (l .2) (l .0) (l .1) (eqb-true _ _ z))
     (λ z. subst⁻¹ Lawful (refused-stays t e (eqb-false _ _ z)) l)
+
+-- "From a fresh table no accepted step makes an ill-formed one", over any list of events
+pub runs-lawful : (es : List Event) (t : Table) → Lawful t → Lawful (runs t es)
+unfolding runs
+runs-lawful [] t l = l
+runs-lawful (e ∷ es) t l = runs-lawful es (stepOf t e .table) (step-lawful t e l)

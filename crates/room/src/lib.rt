@@ -7,6 +7,8 @@ ghost use Rattle.room.specs.Rules.{nextLink, lent, passed, settled, gran
 
 // The rooms that one table can have, and the entries of a record: one for each.
 pub const ROOMS: usize = 16;
+// The same number, as n has it.
+pub const MOST_ROOMS: u8 = 16;
 // In place of a lender's number: there is none.
 pub const NOBODY: u8 = 255;
 // No link number is above this one.

@@ -1,6 +1,6 @@
 -- The step: the first refusal that applies, or what the rules make of the table.
 use Prim.Native.Nat.{ℕ}
-use mathlib.Core.List.{List, _++_}
+use mathlib.Core.List.{List, [], _∷_, _++_}
 use lib.ListN.{length, set}
 use lib.Dec.{ltb, eqb}
 use Rattle.base.specs.Choice.{if_then_else_}
@@ -55,3 +55,8 @@ made t e =
 
 unfoldable pub stepOf : Table → Event → Answer
 stepOf t e = if eqb (refusal t e) DONE then made t e else answer (refusal t e) t
+
+-- the table after a list of events, refused ones among them
+unfoldable pub runs : Table → List Event → Table
+runs t [] = t
+runs t (e ∷ es) = runs (stepOf t e .table) es

@@ -1,4 +1,4 @@
-// The rules of document 01 as definitions, all of them in specs/: a reader needs no other file to know what a step does.
+// The rules of document 01 as definitions, all of them in specs/.
 
 // An event given as numbers: ASK(room, mode), UPGRADE(room), HANDBACK(room), DELIVER(room, other).
 pub struct Event {

@@ -3,6 +3,7 @@
 ghost use mathlib.Core.Path.{_≡_};
 ghost use mathlib.Core.Bool.{true};
 ghost use Rattle.table.specs.Formed.{wellFormed};
+ghost use Rattle.rules.specs.Events as events;
 ghost use Rattle.rules.specs.Step.{stepOf};
 ghost use Rattle.step.specs.Plans.{Plans};
 
@@ -37,7 +38,7 @@ pub const WORN_COUNTER: u32 = 4294967000;
 
 // ASK.
 fn ask(t: Table, e: Event) -> Plan
-    requires { ⌜ (wellFormed t ≡ true) × (e .kind ≡ 0) ⌝ }
+    requires { ⌜ (wellFormed t ≡ true) × (e .kind ≡ events.ASK) ⌝ }
     ensures { λ p. ⌜ Plans t e p ⌝ }
 {
     if e.room >= t.n {
@@ -76,7 +77,7 @@ fn ask(t: Table, e: Event) -> Plan
 
 // UPGRADE.
 fn upgrade(t: Table, e: Event) -> Plan
-    requires { ⌜ (wellFormed t ≡ true) × (e .kind ≡ 1) ⌝ }
+    requires { ⌜ (wellFormed t ≡ true) × (e .kind ≡ events.UPGRADE) ⌝ }
     ensures { λ p. ⌜ Plans t e p ⌝ }
 {
     if e.room >= t.n {
@@ -98,7 +99,7 @@ fn upgrade(t: Table, e: Event) -> Plan
 
 // HANDBACK.
 fn hand_back(t: Table, e: Event) -> Plan
-    requires { ⌜ (wellFormed t ≡ true) × (e .kind ≡ 2) ⌝ }
+    requires { ⌜ (wellFormed t ≡ true) × (e .kind ≡ events.HANDBACK) ⌝ }
     ensures { λ p. ⌜ Plans t e p ⌝ }
 {
     if e.room >= t.n {
@@ -120,7 +121,7 @@ fn hand_back(t: Table, e: Event) -> Plan
 
 // DELIVER.
 fn deliver(t: Table, e: Event) -> Plan
-    requires { ⌜ (wellFormed t ≡ true) × (e .kind ≡ 3) ⌝ }
+    requires { ⌜ (wellFormed t ≡ true) × (e .kind ≡ events.DELIVER) ⌝ }
     ensures { λ p. ⌜ Plans t e p ⌝ }
 {
     if e.room >= t.n {

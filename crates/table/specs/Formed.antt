@@ -1,4 +1,4 @@
--- "Well formed", clause by clause in the order of document 01.
+-- "Well formed": each clause of document 01 by the part that it is about.
 use Prim.Native.Nat.{ℕ, _+_}
 use mathlib.Core.Bool.{Bool, true, false, not, _&&_, _||_, Bool·beq}
 use mathlib.Core.List.{List}

@@ -2,6 +2,7 @@
 ghost use mathlib.Core.Path.{_≡_};
 ghost use Rattle.table.specs.Tables.{emptyTable, freshOf};
 ghost use Rattle.table.specs.Oldest.{oldestOf};
+use room::MOST_ROOMS;
 use room::ROOMS;
 
 pub mod numbers; // numbers.rt: the numbers given back
@@ -81,7 +82,7 @@ pub fn fresh(n: u8) -> Answer
     let blank = Room::blank();
     let mut rooms = [blank; ROOMS];
     match n {
-        1..=16 => {
+        1..=MOST_ROOMS => {
             rooms[0].token = true;
             Answer {
                 number: numbers::DONE,

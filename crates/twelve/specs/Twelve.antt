@@ -21,28 +21,24 @@ use Rattle.table.specs.Tables.{noWire, noQueued, roomAt, freshTable, blankTable
 use Rattle.table.specs.Oldest.{oldestIn, oldestOf}
 use Rattle.table.specs.Formed.{sizesFit, entryFine, roomFine, isBlankEntry, isBlankRoom, due, queuedFine, isBlankQueued, messageFine, namesRightly, wireFine, isNothing, isBlankWire, isToken, tokens, isNamedIn, names, roomsFine, queueFine, wiresFine, namesFine, wellFormed}
 use Rattle.rules.specs.declared.Event.{Event}
+use Rattle.rules.specs.Events.{ASK, UPGRADE, HANDBACK, DELIVER}
 use Rattle.rules.specs.Work.{send, join, sendOut}
 use Rattle.rules.specs.Rules.{hold, want, lend, pass, settle, upgradeWaits, upgraded, serveQueue, serve, settleOrServe, isEmpty, askWith, askWithout, ask, upgrade, handBack, takeRequest, receive}
 use Rattle.rules.specs.Refusals.{first, isFound, anyWorn, refusals, refusal}
-use Rattle.rules.specs.Step.{after, outcome, delivered, made, stepOf}
+use Rattle.rules.specs.Step.{after, outcome, delivered, made, stepOf, runs}
 
 -- the events, as numbers
 abbrev pub asks : ℕ → ℕ → Event
-asks x m = record { kind = 0; room = x; other = 0; mode = m }
+asks x m = record { kind = ASK; room = x; other = 0; mode = m }
 
 abbrev pub upgrades : ℕ → Event
-upgrades x = record { kind = 1; room = x; other = 0; mode = 0 }
+upgrades x = record { kind = UPGRADE; room = x; other = 0; mode = 0 }
 
 abbrev pub handsBack : ℕ → Event
-handsBack x = record { kind = 2; room = x; other = 0; mode = 0 }
+handsBack x = record { kind = HANDBACK; room = x; other = 0; mode = 0 }
 
 abbrev pub delivers : ℕ → ℕ → Event
-delivers a b = record { kind = 3; room = a; other = b; mode = 0 }
-
--- a table after a list of events
-unfoldable pub runs : Table → List Event → Table
-runs t [] = t
-runs t (e ∷ es) = runs (stepOf t e .table) es
+delivers a b = record { kind = DELIVER; room = a; other = b; mode = 0 }
 
 -- a room's held and wanted mode
 abbrev pub modesAre : Table → ℕ → ℕ → ℕ → Bool
@@ -85,7 +81,8 @@ twelve =
     ∷ (eqb (stepOf lentTable (delivers 1 0) .«number») 0 && eqb (entryAt (roomAt (stepOf lentTable (delivers 1 0) .table) 0) 1 .mode) IR
     && eqb (entryAt (roomAt (stepOf lentTable (delivers 1 0) .table) 0) 1 .link) 7)
     -- a token room that holds U with one entry, IR, waits on UPGRADE and holds W once that entry's REDUCE is delivered
-    ∷ (modesAre (runs lending (upgrades 0 ∷ [])) 0 U W && modesAre (runs lending (upgrades 0 ∷ handsBack 1 ∷ delivers 1 0 ∷ [])) 0 W none)
+    ∷ (eqb (entryAt (roomAt lending 0) 1 .mode) IR && modesAre (runs lending (upgrades 0 ∷ [])) 0 U W
+    && modesAre (runs lending (upgrades 0 ∷ handsBack 1 ∷ [])) 0 U W && modesAre (runs lending (upgrades 0 ∷ handsBack 1 ∷ delivers 1 0 ∷ [])) 0 W none)
     ∷ []
 
 unfoldable pub allHold : List Bool → Bool
