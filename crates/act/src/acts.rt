@@ -52,6 +52,7 @@ fn ask_without(d: Desk, m: u8) -> Desk
 }
 
 // ASK.
+// Only for proved callers in this crate: the desk is as lay_out lays it.
 pub fn ask(d: Desk, m: u8) -> Desk
     requires { ⌜ Starts d ⌝ }
     ensures { λ r. ⌜ Ends r (rules.ask (workOf d) m) ⌝ }
@@ -63,6 +64,7 @@ pub fn ask(d: Desk, m: u8) -> Desk
 }
 
 // UPGRADE.
+// Only for proved callers in this crate: the desk is as lay_out lays it.
 pub fn upgrade(d: Desk) -> Desk
     requires { ⌜ Starts d ⌝ }
     ensures { λ r. ⌜ Ends r (rules.upgrade (workOf d)) ⌝ }
@@ -86,6 +88,7 @@ fn settle_or_serve(d: Desk) -> Desk
 }
 
 // HANDBACK.
+// Only for proved callers in this crate: the desk is as lay_out lays it.
 pub fn hand_back(d: Desk) -> Desk
     requires { ⌜ Starts d ⌝ }
     ensures { λ r. ⌜ Ends r (rules.handBack (workOf d)) ⌝ }
@@ -130,6 +133,7 @@ fn take_request(d: Desk, o: u8, m: u8, idle: bool) -> Desk
 }
 
 // The message taken from a arrives.
+// Only for proved callers in this crate: the desk is as lay_out lays it.
 pub fn receive(d: Desk, a: u8, message: Message) -> Desk
     requires { ⌜ Starts d ⌝ }
     ensures { λ r. ⌜ Ends r (rules.receive (workOf d) a message) ⌝ }

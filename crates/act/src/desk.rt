@@ -31,6 +31,7 @@ pub struct Desk {
 pub struct Turned(pub Desk, pub bool);
 
 // A message to room y, after those sent already.
+// Only for proved callers in this crate: a place is left for it.
 pub fn post(d: Desk, y: u8, message: Message) -> Desk
     requires { ⌜ d .sent < outLimit ⌝ }
     ensures { λ r. ⌜ Sends d r (work.send (workOf d) y message) ⌝ }
@@ -47,6 +48,7 @@ pub fn post(d: Desk, y: u8, message: Message) -> Desk
 }
 
 // Room y joins the end of the queue.
+// Only for proved callers in this crate: a place is left for it.
 pub fn join(d: Desk, y: u8, m: u8) -> Desk
     requires { ⌜ (d .first ≤ d .last) × (d .last < placeLimit) ⌝ }
     ensures { λ r. ⌜ Joins d r (work.join (workOf d) y m) ⌝ }
@@ -59,6 +61,7 @@ pub fn join(d: Desk, y: u8, m: u8) -> Desk
 }
 
 // The changed record, and what it sends.
+// Only for proved callers in this crate: a place is left for a message.
 pub fn change(d: Desk, c: Changed) -> Desk
     requires { ⌜ d .sent < outLimit ⌝ }
     ensures { λ r. ⌜ Sends d r (work.change (workOf d) c) ⌝ }
@@ -107,6 +110,7 @@ fn either(a: bool, b: bool) -> bool
 }
 
 // Lend m to y.
+// Only for proved callers in this crate: a place is left for the GRANT.
 pub fn lend(d: Desk, y: u8, m: u8) -> Desk
     requires { ⌜ d .sent < outLimit ⌝ }
     ensures { λ r. ⌜ Sends d r (rules.lend (workOf d) y m) ⌝ }
@@ -150,6 +154,7 @@ fn pass(d: Desk, y: u8, m: u8) -> Desk
 }
 
 // Without the token: what is owed falls to what is owned.
+// Only for proved callers in this crate: a place is left for the REDUCE.
 pub fn settle(d: Desk) -> Desk
     requires { ⌜ d .sent < outLimit ⌝ }
     ensures { λ r. ⌜ Sends d r (rules.settle (workOf d)) ⌝ }
@@ -209,6 +214,7 @@ fn turn(d: Desk) -> Turned
 }
 
 // With the token: a waiting upgrade, then the queue.
+// Only for proved callers in this crate: a place is left for a message to each that waits.
 pub fn serve(d: Desk) -> Desk
     requires { ⌜ Ready d ⌝ }
     ensures { λ r. ⌜ Ends r (rules.serve (workOf d)) ⌝ }

@@ -77,6 +77,7 @@ pub fn refused(number: u8) -> Plan
 }
 
 // The number that is given back for a plan on a table with so many messages: its own, WORN, FULL or DONE.
+// Only for step, which is proved: a plan takes out no more messages than there are.
 pub fn ending(count: usize, p: Plan) -> u8
     requires { ⌜ (p .«number» ≡ 0 → (p .gap ≤ count) × (count ≤ wireLimit)) ⌝ }
     ensures { λ r. ⌜ r ≡ endingOf count p ⌝ }

@@ -37,7 +37,7 @@ fn later(a: usize, b: usize) -> usize
 }
 
 // Done: the table after what room p.me did. Of the messages those at p.place, p.gap many, are taken out;
-// those behind close up, and what was sent follows.
+// those behind close up, and what was sent follows. Only for step, which is proved: the plan fits the table and the wires.
 pub fn written(t: Table, p: Plan) -> Answer
     requires { ⌜ Takes t (p .me) (p .place) (p .gap) × (p .done .sent ≤ outLimit) × (p .done .sent + t .count ≤ wireLimit + p .gap) ⌝ }
     ensures { λ r. ⌜ Writes t (p .me) (p .place) (p .gap) (p .done) r ⌝ }
