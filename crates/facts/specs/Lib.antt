@@ -6,3 +6,4 @@ pub mod Blank
 pub mod Whole
 pub mod Names
 pub mod Search
+pub mod Accepted

@@ -38,6 +38,11 @@ pub record WellFormed (t : Table) : Type 0 where
   pub queue-blank : t .queue ≡ padded queueLimit noQueued (queueOf t)
   pub wires-blank : t .wires ≡ padded wireLimit noWire (messagesOf t)
 
+-- whatever the arrays' lengths, a table that passes the test has no more rooms than there are records
+pub rooms-low : (t : Table) → wellFormed t ≡ true → t .n ≤ roomLimit
+unfolding wellFormed sizesFit
+rooms-low t h = leb-true _ _ (search (and-left, and-right) depth 25 fits 4000)
+
 module _ (t : Table) (s : Shaped t) where
   pub facts-of : wellFormed t ≡ true → WellFormed t
   unfolding wellFormed sizesFit roomsFine queueFine wiresFine namesFine places
@@ -61,7 +66,7 @@ module _ (t : Table) (s : Shaped t) where
       }
     where
       low : t .n ≤ roomLimit
-      low = leb-true _ _ (search (and-left, and-right) depth 25 fits 4000)
+      low = rooms-low t h
 
       queued : t .queued ≤ queueLimit
       queued = leb-true _ _ (search (and-left, and-right) depth 25 fits 4000)

@@ -33,7 +33,7 @@ use Rattle.kept.specs.Asks.{ask-kept, upgrade-kept, hand-back-kept}
 use Rattle.kept.specs.Delivers.{receive-kept}
 use Rattle.kept.specs.Start.{start, take-oldest}
 use Rattle.kept.specs.After.{Lawful, outcome-lawful}
-use Rattle.kept.specs.Accepted.{Accepted, accepted}
+use Rattle.facts.specs.Accepted.{Accepted, accepted}
 
 -- an answer that, if it is 0, has a lawful table
 abbrev Fine : Answer → Type 0

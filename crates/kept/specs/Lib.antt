@@ -14,7 +14,6 @@ pub mod Asks
 pub mod Delivers
 pub mod Start
 pub mod After
-pub mod Accepted
 pub mod Kept
 pub mod Fresh
 pub mod Bare

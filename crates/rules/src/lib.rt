@@ -1,5 +1,14 @@
 // The rules of document 01 as definitions, all of them in specs/.
 
+// The kinds of events.
+pub const ASK: u8 = 0;
+
+pub const UPGRADE: u8 = 1;
+
+pub const HANDBACK: u8 = 2;
+
+pub const DELIVER: u8 = 3;
+
 // An event given as numbers: ASK(room, mode), UPGRADE(room), HANDBACK(room), DELIVER(room, other).
 pub struct Event {
     pub kind: u8,

@@ -1,5 +1,5 @@
 -- What owning a table, and what a room has done, tells of their values.
-use mathlib.Core.Path.{_≡_, sym, _∙_, ap}
+use mathlib.Core.Path.{_≡_}
 use mathlib.Core.List.{List, [], _∷_, map}
 use Prim.Native.Nat.{ℕ, zero, suc, _<_, _≤_}
 use native.Mathlib.Nat.{not-suc-le-zero, le-of-suc-le-suc}
@@ -10,35 +10,16 @@ use base.Fml.{Fml}
 use denote.Laws.{Is}
 use denote.Shadow.{shadow}
 use denote.Array.{each}
-use Rattle.base.specs.Arrays.{padded-fits}
 use Rattle.room.specs.declared.Room.{Room}
 use Rattle.room.specs.Limits.{roomLimit}
 use Rattle.room.specs.Record.{noRoom}
 use Rattle.table.specs.declared.Table.{Table}
-use Rattle.table.specs.Tables.{noWire}
 use Rattle.table.proofs.Table as tables
 use Rattle.table.proofs.Known.{rooms-long, queue-long, wires-long}
 use Rattle.facts.specs.Shapes.{Shaped}
-use Rattle.rules.specs.Work.{Work}
 use Rattle.act.specs.Desk.{outLimit}
-use Rattle.act.specs.declared.Done.{Done}
-use Rattle.act.specs.Done.{doneOf}
-use Rattle.act.proofs.Done.{the-row}
-use Rattle.step.specs.declared.plan.Plan.{Plan}
-use Rattle.step.proofs.plan.Plan as plans
-
--- the outbox, field 3, is as long as its type says
-pub out-long : (d : Done) {vs : List Val} → Is the-row d vs → length (d .out) ≡ outLimit
-out-long d g = simp length-map at (g .1 .1 .1 .1 .1 .0 .1 .0 .1)
-
--- so nobody has sent more than it has places
-pub sent-fits : (d : Done) {vs : List Val} → Is the-row d vs → (w : Work) → d ≡ doneOf w → d .sent ≤ outLimit
-sent-fits d g w e =
-    omega (
-      arith,
-      padded-fits outLimit noWire (w .sent) (sym (ap (λ (x : Done). length (x .out)) e) ∙ out-long d g),
-      ap (λ (x : Done). x .sent) e,
-    )
+use Rattle.plan.specs.declared.Plan.{Plan}
+use Rattle.plan.proofs.Plan as plans
 
 -- what owning an array's elements tells of each: any element type D, seen through its fields (into)
 each-known : {D X : Type 0} (into : X → D) (f : D → List Val → Fml) (P : X → Type 0) (z : X)

@@ -1,7 +1,7 @@
 pub mod Known
-pub mod Ending
+pub mod Splice
 pub mod Outcomes
 pub mod Queues
 pub mod Places
-pub mod Refused
-pub mod Steps
+pub mod Plans
+pub mod Ends

@@ -22,10 +22,9 @@ use Rattle.rules.specs.Step.{after, outcome, stepOf}
 use Rattle.act.specs.Desk.{outLimit}
 use Rattle.act.specs.declared.Done.{Done}
 use Rattle.act.specs.Done.{doneOf}
-use Rattle.step.specs.Writes.{without, Takes, Writes}
-use Rattle.step.specs.declared.plan.Plan.{Plan}
-use Rattle.step.specs.Plans.{endingOf, Made, Plans}
-use Rattle.step.proofs.Ending.{length-spliced}
+use Rattle.plan.specs.declared.Plan.{Plan}
+use Rattle.step.specs.Writes.{without, Takes, Writes, endingOf}
+use Rattle.step.proofs.Splice.{length-spliced}
 
 -- the messages without none of them, and without one
 module _ (t : Table) (long : length (t .wires) ≡ wireLimit) (few : t .count ≤ wireLimit) where
@@ -87,58 +86,3 @@ module _ (count : ℕ) (p : Plan) where
       pub ending-done : p .done .sent ≤ wireLimit - (count - p .gap) → 0 ≡ endingOf count p
       unfolding endingOf
       ending-done h = simp (z, free, le-ltb _ _ h)
-
--- from a plan to the step
-module _ (t : Table) (e : Event) (p : Plan) (s : Plans t e p) (long : length (t .wires) ≡ wireLimit) (k : ℕ) (h : k ≡ endingOf (t .count) p) where
-  -- a plan whose end is 0 is made, has worn nothing out and has room for what it sends
-  record Ends : Type 0 where
-    zero : p .«number» ≡ 0
-    free : p .done .worn ≡ false
-    fits : p .done .sent ≤ wireLimit - (t .count - p .gap)
-
-  -- each end is a refusal that the rules give, or such a plan
-  ends : ((answer k t ≡ stepOf t e) × (k ≡ 0 → ⊥)) ⊎ Ends
-  ends = go (same? (p .«number») 0)
-    where
-      over : (m : Made t e p) → (z : p .«number» ≡ 0) → p .done .worn ≡ false → (wireLimit - (t .count - p .gap) < p .done .sent) ⊎ (p .done .sent ≤ wireLimit - (t .count - p .gap))
-          → ((answer k t ≡ stepOf t e) × (k ≡ 0 → ⊥)) ⊎ Ends
-      over m z f (inl b) =
-          let n : k ≡ 11 = h ∙ sym (ending-full (t .count) p z f b) in
-          inl (rw n (outcome-full t (p .me) (p .place) (p .gap) (m .takes) long (p .done) (m .work) (m .done) f b ∙ m .step), λ q. omega arith)
-      over m z f (inr b) = inr (record { zero = z; free = f; fits = b })
-
-      go : (p .«number» ≡ 0) ⊎ (p .«number» ≢ 0) → ((answer k t ≡ stepOf t e) × (k ≡ 0 → ⊥)) ⊎ Ends
-      go (inr z) = let n : k ≡ p .«number» = h ∙ sym (ending-own (t .count) p z) in inl (rw n (s .refused z), λ q. z (sym n ∙ q))
-      go (inl z) =
-          let m = s .made z in
-          split (p .done .worn)
-          (λ f. let n : k ≡ 10 = h ∙ sym (ending-worn (t .count) p z f) in
-          inl (rw n (outcome-worn t (p .me) (p .place) (p .gap) (m .takes) long (p .done) (m .work) (m .done) f ∙ m .step), λ q. omega arith))
-          (λ f. over m z f (below? (wireLimit - (t .count - p .gap)) (p .done .sent)))
-
-  pub step-refused : (k ≡ 0 → ⊥) → answer k t ≡ stepOf t e
-  step-refused z = go ends
-    where
-      go : ((answer k t ≡ stepOf t e) × (k ≡ 0 → ⊥)) ⊎ Ends → answer k t ≡ stepOf t e
-      go (inl r) = r .0
-      go (inr q) = absurd (z (h ∙ sym (ending-done (t .count) p (q .zero) (q .free) (q .fits))))
-
-  module _ (z : k ≡ 0) where
-    ended : Ends
-    ended = go ends
-      where
-        go : ((answer k t ≡ stepOf t e) × (k ≡ 0 → ⊥)) ⊎ Ends → Ends
-        go (inl r) = absurd (r .1 z)
-        go (inr q) = q
-
-    made : Made t e p
-    made = s .made (ended .zero)
-
-    pub step-takes : Takes t (p .me) (p .place) (p .gap) × (p .done .sent ≤ outLimit) × (p .done .sent + t .count ≤ wireLimit + p .gap)
-    step-takes = (made .takes, made .sent, omega (arith, ended .fits, made .takes .count, made .takes .low))
-
-    pub step-made : (r : Answer) → Writes t (p .me) (p .place) (p .gap) (p .done) r → r ≡ stepOf t e
-    step-made r wr =
-        outcome-done t (p .me) (p .place) (p .gap) (made .takes) long (p .done) (made .work) (made .done) (ended .free) (ended .fits) r
-        (wr (made .work) (made .me) (made .few) (made .done))
-        ∙ made .step

@@ -1,19 +1,24 @@
 -- How the code writes a step into the table: messages taken out of the array, and what was done put in.
-use Prim.Native.Nat.{ℕ, _+_, _<_, _≤_}
+use Prim.Native.Nat.{ℕ, _+_, _-_, _<_, _≤_}
 use mathlib.Core.Path.{_≡_}
+use mathlib.Core.Bool.{not}
 use mathlib.Core.List.{List, _++_}
 use lib.ListN.{length, take, drop}
+use lib.Dec.{ltb, eqb}
+use Rattle.base.specs.Choice.{if_then_else_}
 use Rattle.base.specs.Arrays.{padded}
 use Rattle.room.specs.Limits.{roomLimit}
 use Rattle.table.specs.declared.Table.{Table}
 use Rattle.table.specs.declared.Wire.{Wire}
-use Rattle.table.specs.declared.Answer.{Answer}
 use Rattle.table.specs.Limits.{queueLimit, wireLimit}
-use Rattle.table.specs.Tables.{noWire, messagesOf, answer}
+use Rattle.table.specs.Numbers.{DONE, WORN, FULL}
+use Rattle.table.specs.Tables.{noWire, messagesOf}
 use Rattle.rules.specs.Work.{Work}
 use Rattle.rules.specs.Step.{after}
+use Rattle.act.specs.Desk.{outLimit}
 use Rattle.act.specs.declared.Done.{Done}
 use Rattle.act.specs.Done.{doneOf}
+use Rattle.plan.specs.declared.Plan.{Plan}
 
 -- the messages without those at place, gap many
 abbrev pub without : Table → ℕ → ℕ → List Wire
@@ -27,6 +32,25 @@ pub record Takes (t : Table) (me place gap : ℕ) : Type 0 where
   pub acts : me < roomLimit
   pub blank : t .wires ≡ padded wireLimit noWire (messagesOf t)
 
--- r is 0 and the table after the work that was done, whichever it was
-abbrev pub Writes : Table → ℕ → ℕ → ℕ → Done → Answer → Type 0
-Writes t me place gap d r = (w : Work) → w .me ≡ me → length (w .queue) ≤ queueLimit → d ≡ doneOf w → r ≡ answer 0 (after t (without t place gap) w)
+-- a plan that is made takes out no more messages than there are
+pub record Sized (count : ℕ) (p : Plan) : Type 0 where
+  pub low : p .«number» ≡ 0 → p .gap ≤ count
+  pub high : p .«number» ≡ 0 → count ≤ wireLimit
+
+-- what a plan takes out and sends fits the table
+pub record Fits (t : Table) (p : Plan) : Type 0 where
+  pub takes : Takes t (p .me) (p .place) (p .gap)
+  pub sent : p .done .sent ≤ outLimit
+  pub room : p .done .sent + t .count ≤ wireLimit + p .gap
+
+-- u is the table after the work that was done, whichever it was
+abbrev pub Writes : Table → ℕ → ℕ → ℕ → Done → Table → Type 0
+Writes t me place gap d u = (w : Work) → w .me ≡ me → length (w .queue) ≤ queueLimit → d ≡ doneOf w → u ≡ after t (without t place gap) w
+
+-- the number that is given back for a plan, on a table with so many messages
+unfoldable pub endingOf : ℕ → Plan → ℕ
+endingOf count p =
+    if not (eqb (p .«number») DONE) then p .«number»
+    else if p .done .worn then WORN
+    else if ltb (wireLimit - (count - p .gap)) (p .done .sent) then FULL
+    else DONE

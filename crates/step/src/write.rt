@@ -1,19 +1,16 @@
 // The end of a step that is made: what a room has done is written into the table. Private: only proved callers use it.
 ghost use mathlib.Core.Path.{_≡_};
-ghost use Prim.Native.Nat.{_+_, _-_, _≤_};
+ghost use Prim.Native.Nat.{_+_, _-_};
 ghost use lib.ListN.{take};
-ghost use Rattle.table.specs.Limits.{queueLimit, wireLimit};
-ghost use Rattle.act.specs.Desk.{outLimit};
-ghost use Rattle.step.specs.Writes.{Takes, Writes};
-use crate::plan::Plan;
+ghost use Rattle.table.specs.Limits.{queueLimit};
+ghost use Rattle.step.specs.Writes.{Fits, Writes};
 use act::PLACES;
-use table::Answer;
+use plan::Plan;
 use table::Message;
 use table::QUEUE;
 use table::Queued;
 use table::Table;
 use table::Wire;
-use table::numbers;
 
 // The queue without the place that only a desk has.
 fn shorter(queue: [Queued; PLACES]) -> [Queued; QUEUE]
@@ -36,10 +33,10 @@ fn later(a: usize, b: usize) -> usize
     if a < b { b } else { a }
 }
 
-// Done: the table after what room p.me did. Of the messages those at p.place, p.gap many, are taken out;
+// The table after what room p.me did. Of the messages those at p.place, p.gap many, are taken out;
 // those behind close up, and what was sent follows. Only for step, which is proved: the plan fits the table and the wires.
-pub fn written(t: Table, p: Plan) -> Answer
-    requires { ⌜ Takes t (p .me) (p .place) (p .gap) × (p .done .sent ≤ outLimit) × (p .done .sent + t .count ≤ wireLimit + p .gap) ⌝ }
+pub fn written(t: Table, p: Plan) -> Table
+    requires { ⌜ Fits t p ⌝ }
     ensures { λ r. ⌜ Writes t (p .me) (p .place) (p .gap) (p .done) r ⌝ }
 {
     let d = p.done;
@@ -72,8 +69,5 @@ pub fn written(t: Table, p: Plan) -> Answer
         }
         i += 1;
     }
-    Answer {
-        number: numbers::DONE,
-        table: u,
-    }
+    u
 }

@@ -149,10 +149,10 @@ fn event_of(kind: u8, room: u8, other: u8, mode: u8) -> Event {
 // The event of a command.
 fn event(word: u8, c: Command) -> Event {
     match word {
-        words::ASK => event_of(step::ASK, c.byte(0), 0, c.byte(1)),
-        words::UPGRADE => event_of(step::UPGRADE, c.byte(0), 0, 0),
-        words::HANDBACK => event_of(step::HANDBACK, c.byte(0), 0, 0),
-        words::DELIVER => event_of(step::DELIVER, c.byte(0), c.byte(1), 0),
+        words::ASK => event_of(rules::ASK, c.byte(0), 0, c.byte(1)),
+        words::UPGRADE => event_of(rules::UPGRADE, c.byte(0), 0, 0),
+        words::HANDBACK => event_of(rules::HANDBACK, c.byte(0), 0, 0),
+        words::DELIVER => event_of(rules::DELIVER, c.byte(0), c.byte(1), 0),
         _ => event_of(c.byte(0), c.byte(1), c.byte(2), c.byte(3)),
     }
 }

@@ -5,7 +5,7 @@ use Prim.Native.Nat.{_≤_, _-_}
 use lib.ListN.{take}
 use Rattle.table.proofs.Known.{wires-long}
 use Rattle.step.proofs.Known.{plan-out-long}
-use Rattle.step.proofs.Ending.{target, Mid, mid-start, mid-more, goal-moved, goal-sent, goal-past, written-is}
+use Rattle.step.proofs.Splice.{target, Mid, mid-start, mid-more, goal-moved, goal-sent, goal-past, written-is}
 use Rattle.step.proofs.write.written.Statement.{statement}
 use Rattle.step.proofs.write.written.Tie as tie
 
@@ -44,7 +44,7 @@ loop-holds c =
     let p = s .args .p in
     let long = wires-long t (s .good .0) in
     let far = plan-out-long p (s .good .1 .0) in
-    (omega arith, omega arith, mid-start t (p .me) (p .place) (p .gap) (s .pre .0) long (p .done) (omega arith) _ _)
+    (omega arith, omega arith, mid-start t (p .me) (p .place) (p .gap) (s .pre .takes) long (p .done) (omega arith) _ _)
 
 add-w : tie.Need-add-w Inv-loop μ-loop
 add-w c = search needs
@@ -96,10 +96,10 @@ loop-again c =
       omega arith,
       omega arith,
       ⊎-elim
-          (λ w. mid-more _ _ (k .i) (k .u) (k .inv .2) (omega arith) _ (goal-moved t (p .me) (p .place) (p .gap) (s .pre .0) long (p .done) (omega arith) (k .i) (k .u .wires) (k .inv .2 .half) (omega arith) (omega arith)) _ (w .2))
+          (λ w. mid-more _ _ (k .i) (k .u) (k .inv .2) (omega arith) _ (goal-moved t (p .me) (p .place) (p .gap) (s .pre .takes) long (p .done) (omega arith) (k .i) (k .u .wires) (k .inv .2 .half) (omega arith) (omega arith)) _ (w .2))
           (⊎-elim
-          (λ w. mid-more _ _ (k .i) (k .u) (k .inv .2) (omega arith) _ (goal-sent t (p .me) (p .place) (p .gap) (s .pre .0) long (p .done) (omega arith) (k .i) (omega arith) (omega arith)) _ (w .3))
-          (λ w. mid-more _ _ (k .i) (k .u) (k .inv .2) (omega arith) _ (goal-past t (p .me) (p .place) (p .gap) (s .pre .0) long (p .done) (omega arith) (k .i) (omega arith)) _ (w .2)))
+          (λ w. mid-more _ _ (k .i) (k .u) (k .inv .2) (omega arith) _ (goal-sent t (p .me) (p .place) (p .gap) (s .pre .takes) long (p .done) (omega arith) (k .i) (omega arith) (omega arith)) _ (w .3))
+          (λ w. mid-more _ _ (k .i) (k .u) (k .inv .2) (omega arith) _ (goal-past t (p .me) (p .place) (p .gap) (s .pre .takes) long (p .done) (omega arith) (k .i) (omega arith)) _ (w .2)))
           (c .if1 .came),
     )
 
@@ -111,7 +111,7 @@ returns c =
     let long = wires-long t (s .good .0) in
     let far = plan-out-long p (s .good .1 .0) in
     let k = c .before .loop in
-    written-is t (p .me) (p .place) (p .gap) (s .pre .0) long (p .done) (omega arith) _ (k .i) (k .u) (k .inv .2) (omega arith) (omega arith) (omega arith) (c .before .before .before .before .shorter .ensures)
+    written-is t (p .me) (p .place) (p .gap) (s .pre .takes) long (p .done) (omega arith) _ (k .i) (k .u) (k .inv .2) (omega arith) (omega arith) (omega arith) (c .before .before .before .before .shorter .ensures)
 
 pub written-spec : {M : Type 1} → statement M
 written-spec =

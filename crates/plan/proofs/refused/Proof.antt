@@ -1,6 +1,6 @@
 use borrow.Author.Needs.{needs}
-use Rattle.step.proofs.plan.refused.Statement.{statement}
-use Rattle.step.proofs.plan.refused.Tie as tie
+use Rattle.plan.proofs.refused.Statement.{statement}
+use Rattle.plan.proofs.refused.Tie as tie
 
 blank-requires : tie.Need-blank-requires
 blank-requires c κs = search needs

@@ -1,7 +1,7 @@
 -- What an accepted event has: none of the refusals applies.
 use mathlib.Core.Path.{_≡_, refl}
 use mathlib.Core.Logic.{_≢_}
-use mathlib.Core.Bool.{Bool, true, false, _&&_, _||_, true≢false}
+use mathlib.Core.Bool.{Bool, true, false, _&&_, _||_, true≢false, false≢true}
 use mathlib.Core.List.{List, _∷_}
 use Prim.Native.Nat.{ℕ, _≤_, _<_}
 use native.Mathlib.Omega.{arith}
@@ -11,10 +11,13 @@ use Rattle.base.specs.Tests.{and-left, and-right}
 use Rattle.modes.specs.Codes.{IR, U, W}
 use Rattle.table.specs.declared.Table.{Table}
 use Rattle.table.specs.Tables.{roomAt}
-use Rattle.table.specs.Formed.{isMode}
+use Rattle.table.specs.declared.Found.{Found}
+use Rattle.table.specs.declared.Found.the-variants as found
+use Rattle.table.specs.Oldest.{oldestOf}
+use Rattle.table.specs.Formed.{isMode, wellFormed}
 use Rattle.rules.specs.declared.Event.{Event}
 use Rattle.rules.specs.Events.{isAsk, isUpgrade, isHandBack, isDeliver}
-use Rattle.rules.specs.Refusals.{Row, row, first, refusals, refusal}
+use Rattle.rules.specs.Refusals.{Row, row, first, refusals, refusal, isFound}
 
 -- the first number is 0 only where the row does not apply
 first-none : (k : ℕ) (b : Bool) (rows : List Row) → first (row k b ∷ rows) ≡ 0 → k ≢ 0 → (b ≡ false) × (first rows ≡ 0)
@@ -30,9 +33,18 @@ or-false-right : (p q : Bool) → (p || q) ≡ false → q ≡ false
 or-false-right true q h = absurd (true≢false h)
 or-false-right false q h = h
 
+nothing-found : (r : Found) → r ≡ found.Nothing → isFound r ≡ true → ⊥
+unfolding isFound
+nothing-found r e h = absurd (false≢true (rw e at h))
+
 pub record Accepted (t : Table) (e : Event) : Type 0 where
+  -- 1 TABLE
+  pub formed : wellFormed t ≡ true
+  -- 2 EVENT
+  pub kinds : isAsk e ≡ false → isUpgrade e ≡ false → isHandBack e ≡ false → isDeliver e ≡ true
   -- 3 ROOM
   pub low : e .room < t .n
+  pub near : isDeliver e ≡ true → e .other < t .n
   -- 4 MODE
   pub some : isAsk e ≡ true → IR ≤ e .mode
   pub code : isAsk e ≡ true → e .mode ≤ W
@@ -42,6 +54,8 @@ pub record Accepted (t : Table) (e : Event) : Type 0 where
   pub free : isAsk e ≡ true → roomAt t (e .room) .held ≡ 0
   -- 7 NOT HELD
   pub holds : isUpgrade e ≡ true → roomAt t (e .room) .held ≡ U
+  -- 8 EMPTY
+  pub found : isDeliver e ≡ true → oldestOf t (e .room) (e .other) ≢ found.Nothing
 
 pub accepted : (t : Table) (e : Event) → refusal t e ≡ 0 → Accepted t e
 unfolding refusal refusals
@@ -53,7 +67,12 @@ accepted t e h =
     let five = first-none 5 _ _ (four .1) (λ z. omega arith) in
     let six = first-none 6 _ _ (five .1) (λ z. omega arith) in
     let seven = first-none 7 _ _ (six .1) (λ z. omega arith) in
+    let eight = first-none 8 _ _ (seven .1) (λ z. omega arith) in
     record {
+      formed = not-false (wellFormed t) (one .0);
+      kinds = λ a u b. rw (a, u, b) at (not-false (isAsk e || isUpgrade e || isHandBack e || isDeliver e) (two .0));
+      near = λ d. leb-false _ _ (rw d at (or-false-right (leb (t .n) (e .room)) _ (three .0)));
+      found = λ d n. nothing-found _ n (not-false _ (rw d at (eight .0)));
       low = leb-false _ _ (or-false-left (leb (t .n) (e .room)) _ (three .0));
       some = λ a. leb-true _ _ (and-left _ _ (not-false (isMode (e .mode)) (rw a at (four .0))));
       code = λ a. leb-true _ _ (and-right (leb IR (e .mode)) _ (not-false (isMode (e .mode)) (rw a at (four .0))));

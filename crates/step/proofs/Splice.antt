@@ -15,7 +15,7 @@ use Rattle.table.specs.declared.Table.{Table}
 use Rattle.table.specs.declared.Wire.{Wire}
 use Rattle.table.specs.declared.Queued.{Queued}
 use Rattle.table.specs.Limits.{queueLimit, wireLimit}
-use Rattle.table.specs.Tables.{noWire, noQueued, messagesOf, answer}
+use Rattle.table.specs.Tables.{noWire, noQueued, messagesOf}
 use Rattle.rules.specs.Step.{after}
 use Rattle.act.specs.Desk.{placeLimit, outLimit}
 use Rattle.act.specs.declared.Done.{Done}
@@ -187,7 +187,7 @@ module _ (t : Table) (me place gap : ℕ) (k : Takes t me place gap) (long : len
   -- the table at the end
   pub written-is : (q : List Queued) (i : ℕ) (u : Table) → Mid (begun t me d q (t .count - gap + d .sent)) (target (messagesOf t) place gap (take (d .sent) (d .out))) i u
       → d .sent + t .count ≤ wireLimit + gap → t .count ≤ i → t .count - gap + d .sent ≤ i → q ≡ take queueLimit (d .queue)
-      → Writes t me place gap d (answer 0 u)
+      → Writes t me place gap d u
   unfolding after
   written-is q i u m room h l short w own few e =
       let out : take (d .sent) (d .out) ≡ w .sent = ap (λ (x : Done). take (x .sent) (x .out)) e ∙ padded-take outLimit noWire (w .sent) in
@@ -197,5 +197,4 @@ module _ (t : Table) (me place gap : ℕ) (k : Takes t me place gap) (long : len
       = laid-out q _ i u m room h l ∙ ap (λ (s : List Wire). padded wireLimit noWire (without t place gap ++ s)) out in
       let count : t .count - gap + d .sent ≡ length (without t place gap ++ w .sent)
       = omega (arith, length-spliced (messagesOf t) (w .sent) place gap fits, all, ap (λ (x : Done). x .sent) e) in
-      ap (answer 0)
-      (m .same ∙ (λ j. record { n = t .n; rooms = rooms j; queue = queue j; queued = e j .queued; wires = wires j; count = count j }))
+      m .same ∙ (λ j. record { n = t .n; rooms = rooms j; queue = queue j; queued = e j .queued; wires = wires j; count = count j })

@@ -1,0 +1,45 @@
+use native.Mathlib.Omega.{arith}
+use Rattle.plan.proofs.Numbers.{refused-is, back-waiting, back-empty, back-is}
+use borrow.Author.Needs.{needs}
+use Rattle.plan.proofs.hand_back.Statement.{statement}
+use Rattle.plan.proofs.hand_back.Tie as tie
+
+cast-x : tie.Need-cast-x
+cast-x c = search needs
+
+mul-room : tie.Need-mul-room
+mul-room c = search needs
+
+element-copy-out-room : tie.Need-element-copy-out-room
+element-copy-out-room c = omega arith
+
+refused-requires : tie.Need-refused-requires
+refused-requires c κs = search needs
+
+returns : tie.Need-returns
+returns c = refused-is _ _ 5 (λ q. omega arith) (search (needs, back-waiting)) _ (c .refused .ensures)
+
+refused-requires-2 : tie.Need-refused-requires-2
+refused-requires-2 c κs = search needs
+
+returns-2 : tie.Need-returns-2
+returns-2 c = refused-is _ _ 7 (λ q. omega arith) (search (needs, back-empty)) _ (c .refused2 .ensures)
+
+start-requires : tie.Need-start-requires
+start-requires c κs = search needs
+
+hand-back-requires : tie.Need-hand-back-requires
+hand-back-requires c κs = search needs
+
+made-requires : tie.Need-made-requires
+made-requires c κs = search needs
+
+returns-3 : tie.Need-returns-3
+returns-3 c =
+    back-is _ _ (c .before .before .before .before .before .before .before .before .before .before .pre) (c .before .before .before .before .before .before .if1 .left) (c .before .before .before .before .if2 .left)
+    _ (c .before .before .start .ensures) _ (c .before .hand-back .ensures) _ (c .made .ensures)
+
+pub hand-back-spec : {M : Type 1} → statement M
+hand-back-spec =
+    tie.close
+    (tie.spec cast-x mul-room element-copy-out-room refused-requires returns refused-requires-2 returns-2 start-requires hand-back-requires made-requires returns-3)

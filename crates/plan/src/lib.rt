@@ -1,0 +1,204 @@
+// What a step is going to do, worked out on the table as it came: the first refusal that applies, or what the rules make of one room.
+// Nothing is written here.
+ghost use mathlib.Core.Path.{_≡_};
+ghost use Rattle.rules.specs.Events as events;
+ghost use Rattle.plan.specs.Plans.{startAt, madePlan, refusedPlan, planOf, Begins};
+use act::Done;
+use act::OUTBOX;
+use act::PLACES;
+use act::Start;
+use room::Room;
+use rules::ASK;
+use rules::DELIVER;
+use rules::Event;
+use rules::HANDBACK;
+use rules::UPGRADE;
+use table::Found;
+use table::Message;
+use table::QUEUE;
+use table::Queued;
+use table::Table;
+use table::Wire;
+use table::numbers;
+
+// An ASK is refused from this many messages on the wires,
+pub const BUSY_MESSAGES: usize = 96;
+// and from this counter on.
+pub const WORN_COUNTER: u32 = 4294967000;
+
+// A refusal's number; or 0 and what room me has done, with gap many messages at place taken out.
+pub struct Plan {
+    pub number: u8,
+    pub me: u8,
+    pub place: usize,
+    pub gap: usize,
+    pub done: Done,
+}
+
+// Room me before it acts, and the queue.
+fn start(me: u8, room: Room, queue: [Queued; QUEUE], queued: usize) -> Start
+    ensures { λ s. ⌜ s ≡ startAt me room queue queued ⌝ }
+{
+    Start {
+        me: me,
+        room: room,
+        queue: queue,
+        queued: queued,
+    }
+}
+
+// A step that is made.
+fn made(me: u8, place: usize, gap: usize, done: Done) -> Plan
+    ensures { λ p. ⌜ p ≡ madePlan me place gap done ⌝ }
+{
+    Plan {
+        number: numbers::DONE,
+        me: me,
+        place: place,
+        gap: gap,
+        done: done,
+    }
+}
+
+// A step that is refused.
+fn refused(number: u8) -> Plan
+    ensures { λ p. ⌜ p ≡ refusedPlan «number» ⌝ }
+{
+    let nothing = Wire {
+        from: 0,
+        to: 0,
+        message: Message::Nothing,
+    };
+    let room = Room::blank();
+    let done = Done {
+        room: room,
+        queue: [Queued { room: 0, mode: 0 }; PLACES],
+        queued: 0,
+        out: [nothing; OUTBOX],
+        sent: 0,
+        worn: false,
+    };
+    Plan {
+        number: number,
+        me: 0,
+        place: 0,
+        gap: 0,
+        done: done,
+    }
+}
+
+// ASK.
+fn ask(t: Table, e: Event) -> Plan
+    requires { ⌜ Begins t e events.ASK ⌝ }
+    ensures { λ p. ⌜ p ≡ planOf t e ⌝ }
+{
+    let mode = e.mode;
+    match mode {
+        modes::IR..=modes::W => {}
+        _ => return refused(numbers::MODE),
+    }
+    let x = e.room as usize;
+    let room = t.rooms[x];
+    if room.wanted != modes::NONE {
+        return refused(numbers::WAITING);
+    }
+    if room.held != modes::NONE {
+        return refused(numbers::HELD);
+    }
+    if t.count >= BUSY_MESSAGES {
+        return refused(numbers::BUSY);
+    }
+    let n = t.n as usize;
+    let mut i: usize = 0;
+    while i < n {
+        let r = t.rooms[i];
+        if r.counter >= WORN_COUNTER {
+            return refused(numbers::WORN);
+        }
+        i += 1;
+    }
+    let queue = t.queue;
+    let s = start(e.room, room, queue, t.queued);
+    let done = act::ask(s, mode);
+    made(e.room, t.count, 0, done)
+}
+
+// UPGRADE.
+fn upgrade(t: Table, e: Event) -> Plan
+    requires { ⌜ Begins t e events.UPGRADE ⌝ }
+    ensures { λ p. ⌜ p ≡ planOf t e ⌝ }
+{
+    let x = e.room as usize;
+    let room = t.rooms[x];
+    if room.wanted != modes::NONE {
+        return refused(numbers::WAITING);
+    }
+    if room.held != modes::U {
+        return refused(numbers::NOT_HELD);
+    }
+    let queue = t.queue;
+    let s = start(e.room, room, queue, t.queued);
+    let done = act::upgrade(s);
+    made(e.room, t.count, 0, done)
+}
+
+// HANDBACK.
+fn hand_back(t: Table, e: Event) -> Plan
+    requires { ⌜ Begins t e events.HANDBACK ⌝ }
+    ensures { λ p. ⌜ p ≡ planOf t e ⌝ }
+{
+    let x = e.room as usize;
+    let room = t.rooms[x];
+    if room.wanted != modes::NONE {
+        return refused(numbers::WAITING);
+    }
+    if room.held == modes::NONE {
+        return refused(numbers::NOT_HELD);
+    }
+    let queue = t.queue;
+    let s = start(e.room, room, queue, t.queued);
+    let done = act::hand_back(s);
+    made(e.room, t.count, 0, done)
+}
+
+// DELIVER.
+fn deliver(t: Table, e: Event) -> Plan
+    requires { ⌜ Begins t e events.DELIVER ⌝ }
+    ensures { λ p. ⌜ p ≡ planOf t e ⌝ }
+{
+    if e.other >= t.n {
+        return refused(numbers::ROOM);
+    }
+    let Found::At { place, message } = table::oldest(t, e.room, e.other) else {
+        return refused(numbers::EMPTY);
+    };
+    let b = e.other as usize;
+    let room = t.rooms[b];
+    let queue = t.queue;
+    let s = start(e.other, room, queue, t.queued);
+    let done = act::receive(s, e.room, message);
+    made(e.other, place, 1, done)
+}
+
+// What a step on t by e is going to do, for any table and any event.
+pub fn planned(t: Table, e: Event) -> Plan
+    ensures { λ p. ⌜ p ≡ planOf t e ⌝ }
+{
+    if !formed::well_formed(t) {
+        return refused(numbers::TABLE);
+    }
+    let kind = e.kind;
+    match kind {
+        ASK..=DELIVER => {}
+        _ => return refused(numbers::EVENT),
+    }
+    if e.room >= t.n {
+        return refused(numbers::ROOM);
+    }
+    match kind {
+        ASK => ask(t, e),
+        UPGRADE => upgrade(t, e),
+        HANDBACK => hand_back(t, e),
+        _ => deliver(t, e),
+    }
+}
