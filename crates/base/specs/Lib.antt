@@ -4,3 +4,4 @@ pub mod Below
 pub mod Sums
 pub mod Lists
 pub mod Arrays
+pub mod Letters
