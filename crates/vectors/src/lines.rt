@@ -22,17 +22,11 @@ fn place_of(text: &[u8], from: usize, b: u8) -> usize
 }
 
 // The number that a line's last event gave back, and what went wrong.
-fn show(number: u8, fault: u8) {
+fn show(number: u8, fault: bool) {
     io::write_all(1, b": ");
     io::print_decimal(1, number as u64);
-    match fault {
-        desk::NOT_UNDERSTOOD => {
-            io::write_all(1, b", a word not understood");
-        }
-        desk::NOT_AS_IT_CAME => {
-            io::write_all(1, b", the table not as it came");
-        }
-        _ => {}
+    if fault {
+        io::write_all(1, b", a word not understood");
     }
     io::write_all(1, b"\n");
 }
@@ -48,7 +42,7 @@ fn obey_all(d: Desk, line: &[u8], from: usize) -> Desk {
             e = desk::obey(e, c);
             c = command::none();
         } else {
-            c = c.after(b);
+            c = command::after(c, b);
         }
         i += 1;
     }
@@ -68,7 +62,7 @@ fn take(d: Desk, line: &[u8]) -> Desk {
     if colon > 0 {
         io::write_all(1, &line[..colon]);
         show(e.number, e.fault);
-        e.fault = desk::NO_FAULT;
+        e.fault = false;
     }
     e
 }
