@@ -90,23 +90,19 @@ fn with_joined(t: Table, room: u8, mode: u8) -> Table {
     u
 }
 
-// One more message.
-fn with_sent(mut t: Table, w: Wire) -> Table {
-    let at = t.count;
-    if at < WIRES {
-        t.wires[at] = w;
-        t.count = at + 1;
-    }
-    t
-}
-
 // Another message on wire i, or one more where there is no such wire.
 pub fn with_message(mut t: Table, i: usize, w: Wire) -> Table {
-    if i < WIRES {
-        t.wires[i] = w;
-        return t;
+    let mut at = i;
+    if i >= WIRES {
+        at = t.count;
+        if at < WIRES {
+            t.count = at + 1;
+        }
     }
-    with_sent(t, w)
+    if at < WIRES {
+        t.wires[at] = w;
+    }
+    t
 }
 
 // REDUCEs from room 1 to room 0 up to so many messages.
@@ -120,7 +116,7 @@ fn with_reduces(t: Table, count: usize) -> Table {
     let mut i = t.count;
     while i < WIRES {
         if i < count {
-            u = with_sent(u, w);
+            u = with_message(u, WIRES, w);
         }
         i += 1;
     }

@@ -37,20 +37,16 @@ pub fn bare() -> Desk {
     }
 }
 
-// The table at hand is kept at place k.
-fn keep(mut d: Desk, k: usize) -> Desk {
+// The table at hand is kept at place k, or the one kept there is taken.
+fn keep_or_take(mut d: Desk, word: u64, k: usize) -> Desk {
+    let mut t = d.table;
     if k < KEPT {
-        let t = d.table;
-        d.kept[k] = t;
-    }
-    d
-}
-
-// The table kept at place k is at hand.
-fn take(mut d: Desk, k: usize) -> Desk {
-    if k < KEPT {
-        let t = d.kept[k];
-        d.table = t;
+        if word == words::KEEP {
+            d.kept[k] = t;
+        } else {
+            t = d.kept[k];
+            d.table = t;
+        }
     }
     d
 }
@@ -176,8 +172,7 @@ pub fn obey(mut d: Desk, c: Command) -> Desk {
         | words::HANDBACK
         | words::DELIVER
         | words::EVENT => try_event(d, c),
-        words::TAKE => take(d, c.a),
-        words::KEEP => keep(d, c.a),
+        words::KEEP | words::TAKE => keep_or_take(d, word, c.a),
         words::AT => {
             d.wire = c.a;
             d

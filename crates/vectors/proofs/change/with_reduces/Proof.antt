@@ -12,8 +12,8 @@ abbrev μ-loop : tie.MeasureT-loop
 loop-holds : tie.Need-loop-holds Inv-loop μ-loop
 loop-holds c = search needs
 
-with-sent-requires : tie.Need-with-sent-requires Inv-loop μ-loop
-with-sent-requires c κs = search needs
+with-message-requires : tie.Need-with-message-requires Inv-loop μ-loop
+with-message-requires c κs = search needs
 
 add-i : tie.Need-add-i Inv-loop μ-loop
 add-i c = search needs
@@ -30,4 +30,4 @@ returns c = search needs
 pub with-reduces-spec : {M : Type 1} → statement M
 with-reduces-spec =
     tie.close
-    (tie.spec Inv-loop μ-loop loop-holds with-sent-requires add-i loop-less loop-again returns)
+    (tie.spec Inv-loop μ-loop loop-holds with-message-requires add-i loop-less loop-again returns)
