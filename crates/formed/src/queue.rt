@@ -36,15 +36,14 @@ fn place_fine(n: u8, rooms: [Standing; ROOMS], used: bool, q: Queued) -> bool
 pub fn look_over(n: u8, rooms: [Standing; ROOMS], queue: [Queued; QUEUE], queued: usize) -> Named
     ensures { λ r. ⌜ r ≡ namedIn n rooms queue queued ⌝ }
 {
-    let none: [usize; ROOMS] = [0; ROOMS];
-    let mut times = none;
+    let mut times: [usize; ROOMS] = [0; ROOMS];
     let mut i: usize = 0;
     while i < QUEUE {
         let q = queue[i];
         if !place_fine(n, rooms, i < queued, q) {
             return Named {
                 fine: false,
-                times: none,
+                times: [0; ROOMS],
             };
         }
         if i < queued {

@@ -23,11 +23,11 @@ abbrev test : ℕ → List Standing → List Queued → ℕ → ℕ → Bool
 test n rooms queue queued i = queuePlaceFine n rooms (ltb i queued) (getD queue i noQueued)
 
 abbrev Inv-loop : tie.InvT-loop
-Inv-loop n rooms queued queue none times₀ i₀ times i =
+Inv-loop n rooms queued queue times₀ i₀ times i =
     (i ≤ 16) × (allBelow i (test n rooms queue queued) ≡ true) × Counted times (placesNaming queue queued i)
 
 abbrev μ-loop : tie.MeasureT-loop
-μ-loop n rooms queued queue none times₀ i₀ times i = 16 - i
+μ-loop n rooms queued queue times₀ i₀ times i = 16 - i
 
 loop-holds : tie.Need-loop-holds Inv-loop μ-loop
 loop-holds c = (search needs, refl, naming-none _ _)
