@@ -178,7 +178,7 @@ fn upgraded(d: Desk) -> Desk
 }
 
 // One turn of serving: the head of the queue, if it can be taken off.
-fn turn(d: Desk) -> Turned
+fn turn(mut d: Desk) -> Turned
     requires { ⌜ Ready d ⌝ }
     ensures { λ r. ⌜ Turns d (r .1) (r .0) ⌝ }
 {
@@ -195,15 +195,14 @@ fn turn(d: Desk) -> Turned
     if !modes::agree(own, q.mode) {
         return Turned(d, false);
     }
-    let mut e = d;
-    e.first = at + 1;
+    d.first = at + 1;
     if q.room == d.me {
-        return Turned(hold(e, q.mode), true);
+        return Turned(hold(d, q.mode), true);
     }
     if modes::can_lend(own, q.mode) {
-        return Turned(lend(e, q.room, q.mode), true);
+        return Turned(lend(d, q.room, q.mode), true);
     }
-    Turned(pass(e, q.room, q.mode), false)
+    Turned(pass(d, q.room, q.mode), false)
 }
 
 // With the token: a waiting upgrade, then the queue.
