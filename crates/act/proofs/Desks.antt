@@ -24,7 +24,7 @@ use Rattle.table.specs.declared.Wire.{Wire}
 use Rattle.table.specs.declared.Message.{Message}
 use Rattle.table.specs.declared.Message.the-variants as msg
 use Rattle.table.specs.Tables.{noWire}
-use Rattle.rules.specs.Work.{send, join, sendOut, change}
+use Rattle.rules.specs.Work.{Work, send, join, sendOut, change}
 use Rattle.rules.specs.Rules.{hold, want, lend, pass, settle, upgradeWaits, upgraded}
 use Rattle.act.specs.declared.desk.Desk.{Desk}
 use Rattle.act.specs.Desk.{workOf, outLimit, Stays, Joins, Sends}
@@ -41,6 +41,15 @@ atOut d o k = record { me = d .me; room = d .room; queue = d .queue; first = d .
 
 abbrev pub atQueue : Desk → List Queued → ℕ → ℕ → Desk
 atQueue d q f l = record { me = d .me; room = d .room; queue = q; first = f; last = l; out = d .out; sent = d .sent; worn = d .worn }
+
+-- with another record at the most, a desk stays as it is
+stays : (d : Desk) (k : Room) (w : Work) → workOf (atRoom d k) ≡ w → Stays d (atRoom d k) w
+stays d k w e = record { holds = e; first = refl; last = refl; sent = refl; out = refl }
+
+-- what is sent from a desk with another record is sent from the desk
+sends-on : (d : Desk) (k : Room) (b : Bool) (r : Desk) (v w : Work) → v ≡ w → Sends (atWorn d k b) r v → Sends d r w
+sends-on d k b r v w e s =
+    record { holds = s .holds ∙ e; first = s .first; last = s .last; most = s .most; clean = λ c. s .clean (record { blank = c .blank }) }
 
 module _ (d : Desk) (y : ℕ) (m : Message) where
   pub post-is : d .sent < length (d .out) → d .sent < outLimit → Sends d (atOut d (set (d .out) (d .sent) (record { «from» = d .me; to = y; message = m })) (d .sent + 1)) (send (workOf d) y m)
@@ -81,34 +90,31 @@ module _ (d : Desk) (c : Changed) where
   pub change-reduce : (to l m : ℕ) → c .send ≡ out.Reduce to l m → (r : Desk) → Sends (atRoom d (c .room)) r (send (workOf (atRoom d (c .room))) to (msg.Reduce l m))
       → Sends d r (change (workOf d) c)
   unfolding sendOut
-  change-reduce to l m e r s =
-      record { holds = rw e (s .holds); first = s .first; last = s .last; most = s .most; clean = λ k. s .clean (record { blank = k .blank }) }
+  change-reduce to l m e r s = sends-on d (c .room) (d .worn) r _ _ (rw e) s
 
 module _ (d : Desk) (m : ℕ) where
   pub hold-is : Stays d (atRoom d (withModes (d .room) m 0)) (hold (workOf d) m)
   unfolding hold
-  hold-is = record { holds = refl; first = refl; last = refl; sent = refl; out = refl }
+  hold-is = stays d (withModes (d .room) m 0) _ refl
 
   pub want-is : Stays d (atRoom d (withModes (d .room) (d .room .held) m)) (want (workOf d) m)
   unfolding want
-  want-is = record { holds = refl; first = refl; last = refl; sent = refl; out = refl }
+  want-is = stays d (withModes (d .room) (d .room .held) m) _ refl
 
 module _ (d : Desk) (y m : ℕ) (r : Desk) where
   pub lend-is : (l : Lent) → l ≡ lent (d .room) y m → (b : Bool) → b ≡ (d .worn || l .worn)
       → Sends (atWorn d (l .room) b) r (send (workOf (atWorn d (l .room) b)) y (msg.Grant m (l .link))) → Sends d r (lend (workOf d) y m)
   unfolding lend
-  lend-is l e b q s =
-      record { holds = rw (q, e) at (s .holds); first = s .first; last = s .last; most = s .most; clean = λ k. s .clean (record { blank = k .blank }) }
+  lend-is l e b q s = sends-on d (l .room) b r _ _ (rw (q, e)) s
 
   pub pass-is : (p : Passed) → p ≡ passed (d .room) y → (b : Bool) → b ≡ (d .worn || p .worn)
       → Sends (atWorn d (p .room) b) r (send (workOf (atWorn d (p .room) b)) y (msg.Token m (p .rest) (p .link))) → Sends d r (pass (workOf d) y m)
   unfolding pass
-  pass-is p e b q s =
-      record { holds = rw (q, e) at (s .holds); first = s .first; last = s .last; most = s .most; clean = λ k. s .clean (record { blank = k .blank }) }
+  pass-is p e b q s = sends-on d (p .room) b r _ _ (rw (q, e)) s
 
 pub settle-is : (d : Desk) (c : Changed) → c ≡ settled (d .room) → (r : Desk) → Sends d r (change (workOf d) c) → Sends d r (settle (workOf d))
 unfolding settle
-settle-is d c e r s = record { holds = rw e at (s .holds); first = s .first; last = s .last; most = s .most; clean = s .clean }
+settle-is d c e r s = sends-on d (d .room) (d .worn) r _ _ (rw e) s
 
 module _ (r : Room) where
   pub waits-both : r .held ≡ 3 → eqb (r .wanted) 5 ≡ upgradeWaits r
@@ -122,12 +128,12 @@ module _ (r : Room) where
 module _ (d : Desk) (b : Bool) (p : b ≡ upgradeWaits (d .room)) where
   pub upgraded-none : not b ≡ true → Stays d d (upgraded (workOf d))
   unfolding upgraded
-  upgraded-none h = record { holds = simp (sym p ∙ not-true b h); first = refl; last = refl; sent = refl; out = refl }
+  upgraded-none h = stays d (d .room) _ (simp (sym p ∙ not-true b h))
 
   module _ (h : not b ≡ false) (n : Bool) (q : n ≡ hasNoEntries (d .room)) where
     pub upgraded-lent : not n ≡ true → Stays d d (upgraded (workOf d))
     unfolding upgraded
-    upgraded-lent k = record { holds = simp (sym p ∙ not-false b h, sym q ∙ not-true n k); first = refl; last = refl; sent = refl; out = refl }
+    upgraded-lent k = stays d (d .room) _ (simp (sym p ∙ not-false b h, sym q ∙ not-true n k))
 
     pub upgraded-holds : not n ≡ false → (r : Desk) → Stays d r (hold (workOf d) W) → Stays d r (upgraded (workOf d))
     unfolding upgraded

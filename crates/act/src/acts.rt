@@ -134,7 +134,7 @@ fn take_request(d: Desk, o: u8, m: u8, idle: bool) -> Desk
 
 // The message taken from a arrives.
 // Only for proved callers in this crate: the desk is as lay_out lays it.
-pub fn receive(d: Desk, a: u8, message: Message) -> Desk
+pub fn receive(mut d: Desk, a: u8, message: Message) -> Desk
     requires { ⌜ Starts d ⌝ }
     ensures { λ r. ⌜ Ends r (rules.receive (workOf d) a message) ⌝ }
 {
@@ -148,9 +148,8 @@ pub fn receive(d: Desk, a: u8, message: Message) -> Desk
             room.take_token(d.me, a, mode, rest, link),
         )),
         Message::Reduce { link, mode } => {
-            let mut e = d;
-            e.room = room.take_reduce(a, link, mode);
-            settle_or_serve(e)
+            d.room = room.take_reduce(a, link, mode);
+            settle_or_serve(d)
         }
     }
 }

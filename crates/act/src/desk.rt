@@ -32,48 +32,45 @@ pub struct Turned(pub Desk, pub bool);
 
 // A message to room y, after those sent already.
 // Only for proved callers in this crate: a place is left for it.
-pub fn post(d: Desk, y: u8, message: Message) -> Desk
+pub fn post(mut d: Desk, y: u8, message: Message) -> Desk
     requires { ⌜ d .sent < outLimit ⌝ }
     ensures { λ r. ⌜ Sends d r (work.send (workOf d) y message) ⌝ }
 {
     let at = d.sent;
-    let mut e = d;
-    e.out[at] = Wire {
+    d.out[at] = Wire {
         from: d.me,
         to: y,
         message: message,
     };
-    e.sent = at + 1;
-    e
+    d.sent = at + 1;
+    d
 }
 
 // Room y joins the end of the queue.
 // Only for proved callers in this crate: a place is left for it.
-pub fn join(d: Desk, y: u8, m: u8) -> Desk
+pub fn join(mut d: Desk, y: u8, m: u8) -> Desk
     requires { ⌜ (d .first ≤ d .last) × (d .last < placeLimit) ⌝ }
     ensures { λ r. ⌜ Joins d r (work.join (workOf d) y m) ⌝ }
 {
     let at = d.last;
-    let mut e = d;
-    e.queue[at] = Queued { room: y, mode: m };
-    e.last = at + 1;
-    e
+    d.queue[at] = Queued { room: y, mode: m };
+    d.last = at + 1;
+    d
 }
 
 // The changed record, and what it sends.
 // Only for proved callers in this crate: a place is left for a message.
-pub fn change(d: Desk, c: Changed) -> Desk
+pub fn change(mut d: Desk, c: Changed) -> Desk
     requires { ⌜ d .sent < outLimit ⌝ }
     ensures { λ r. ⌜ Sends d r (work.change (workOf d) c) ⌝ }
 {
     let room = c.room;
-    let mut e = d;
-    e.room = room;
+    d.room = room;
     let send = c.send;
     match send {
-        Send::Nothing => e,
+        Send::Nothing => d,
         Send::Reduce { to, link, mode } => post(
-            e,
+            d,
             to,
             Message::Reduce {
                 link: link,
@@ -84,22 +81,20 @@ pub fn change(d: Desk, c: Changed) -> Desk
 }
 
 // The room holds m, and wants nothing.
-pub fn hold(d: Desk, m: u8) -> Desk
+pub fn hold(mut d: Desk, m: u8) -> Desk
     ensures { λ r. ⌜ Stays d r (rules.hold (workOf d) m) ⌝ }
 {
-    let mut e = d;
-    e.room.held = m;
-    e.room.wanted = 0;
-    e
+    d.room.held = m;
+    d.room.wanted = 0;
+    d
 }
 
 // The room wants m.
-pub fn want(d: Desk, m: u8) -> Desk
+pub fn want(mut d: Desk, m: u8) -> Desk
     ensures { λ r. ⌜ Stays d r (rules.want (workOf d) m) ⌝ }
 {
-    let mut e = d;
-    e.room.wanted = m;
-    e
+    d.room.wanted = m;
+    d
 }
 
 // Whether one of two is so.
@@ -111,18 +106,17 @@ fn either(a: bool, b: bool) -> bool
 
 // Lend m to y.
 // Only for proved callers in this crate: a place is left for the GRANT.
-pub fn lend(d: Desk, y: u8, m: u8) -> Desk
+pub fn lend(mut d: Desk, y: u8, m: u8) -> Desk
     requires { ⌜ d .sent < outLimit ⌝ }
     ensures { λ r. ⌜ Sends d r (rules.lend (workOf d) y m) ⌝ }
 {
     let room = d.room;
     let l = room.lend(y, m);
     let after = l.room;
-    let mut e = d;
-    e.room = after;
-    e.worn = either(d.worn, l.worn);
+    d.room = after;
+    d.worn = either(d.worn, l.worn);
     post(
-        e,
+        d,
         y,
         Message::Grant {
             mode: m,
@@ -132,18 +126,17 @@ pub fn lend(d: Desk, y: u8, m: u8) -> Desk
 }
 
 // Pass the token to y.
-fn pass(d: Desk, y: u8, m: u8) -> Desk
+fn pass(mut d: Desk, y: u8, m: u8) -> Desk
     requires { ⌜ d .sent < outLimit ⌝ }
     ensures { λ r. ⌜ Sends d r (rules.pass (workOf d) y m) ⌝ }
 {
     let room = d.room;
     let p = room.pass(y);
     let after = p.room;
-    let mut e = d;
-    e.room = after;
-    e.worn = either(d.worn, p.worn);
+    d.room = after;
+    d.worn = either(d.worn, p.worn);
     post(
-        e,
+        d,
         y,
         Message::Token {
             mode: m,
@@ -185,7 +178,7 @@ fn upgraded(d: Desk) -> Desk
 }
 
 // One turn of serving: the head of the queue, if it can be taken off.
-fn turn(d: Desk) -> Turned
+fn turn(mut d: Desk) -> Turned
     requires { ⌜ Ready d ⌝ }
     ensures { λ r. ⌜ Turns d (r .1) (r .0) ⌝ }
 {
@@ -202,15 +195,14 @@ fn turn(d: Desk) -> Turned
     if !modes::agree(own, q.mode) {
         return Turned(d, false);
     }
-    let mut e = d;
-    e.first = at + 1;
+    d.first = at + 1;
     if q.room == d.me {
-        return Turned(hold(e, q.mode), true);
+        return Turned(hold(d, q.mode), true);
     }
     if modes::can_lend(own, q.mode) {
-        return Turned(lend(e, q.room, q.mode), true);
+        return Turned(lend(d, q.room, q.mode), true);
     }
-    Turned(pass(e, q.room, q.mode), false)
+    Turned(pass(d, q.room, q.mode), false)
 }
 
 // With the token: a waiting upgrade, then the queue.

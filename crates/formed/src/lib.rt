@@ -73,10 +73,8 @@ pub fn well_formed(t: Table) -> bool
             return false;
         }
         let carried = wires::carried_by(w);
-        let at = carried.room;
-        if at < ROOMS {
-            times[at] += 1;
-        }
+        let more = queue::raised(times, carried.room);
+        times = more;
         tokens += carried.tokens;
         i += 1;
     }

@@ -1,6 +1,9 @@
 // The places of the queue: each names a waiting room, or is blank.
 ghost use mathlib.Core.Path.{_≡_};
-ghost use Rattle.formed.specs.Names.{queuePlaceFine, namedIn};
+ghost use Prim.Native.Nat.{ℕ, _+_, _≤_, _<_};
+ghost use lib.ListN.{getD, set};
+ghost use Rattle.room.specs.Limits.{roomLimit};
+ghost use Rattle.formed.specs.Names.{mostNames, queuePlaceFine, namedIn};
 use super::ranges::is_mode;
 use super::rooms::Standing;
 use super::rooms::standing_at;
@@ -32,24 +35,36 @@ fn place_fine(n: u8, rooms: [Standing; ROOMS], used: bool, q: Queued) -> bool
     room.due == q.mode
 }
 
+// How often each room is named, with once more for the room `at`, if there is such a room.
+// Only for proved callers in this crate: no count is near the largest number.
+pub fn raised(times: [usize; ROOMS], at: usize) -> [usize; ROOMS]
+    requires { ⌜ ((c : ℕ) → c < roomLimit → getD times c 0 ≤ mostNames) ⌝ }
+    ensures { λ r. ⌜ r ≡ set times at (getD times at 0 + 1) ⌝ }
+{
+    let mut more = times;
+    if at < ROOMS {
+        more[at] += 1;
+    }
+    more
+}
+
 // All the places, of which the first `queued` are in use.
 pub fn look_over(n: u8, rooms: [Standing; ROOMS], queue: [Queued; QUEUE], queued: usize) -> Named
     ensures { λ r. ⌜ r ≡ namedIn n rooms queue queued ⌝ }
 {
-    let none: [usize; ROOMS] = [0; ROOMS];
-    let mut times = none;
+    let mut times: [usize; ROOMS] = [0; ROOMS];
     let mut i: usize = 0;
     while i < QUEUE {
         let q = queue[i];
         if !place_fine(n, rooms, i < queued, q) {
             return Named {
                 fine: false,
-                times: none,
+                times: [0; ROOMS],
             };
         }
         if i < queued {
-            let at = q.room as usize;
-            times[at] += 1;
+            let more = raised(times, q.room as usize);
+            times = more;
         }
         i += 1;
     }

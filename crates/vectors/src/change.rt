@@ -1,5 +1,7 @@
-// A table with one thing changed. A place that there is not stays out.
-ghost use Prim.Native.Nat.{_≤_};
+// A table with what a command changes in it. A place that there is not stays out.
+use crate::command::Command;
+use crate::command::byte;
+use crate::command::link;
 use crate::words;
 use room::Entry;
 use room::ROOMS;
@@ -11,77 +13,75 @@ use table::Table;
 use table::WIRES;
 use table::Wire;
 
-// A record with another field, given as a byte or as a link number.
-fn with_field(r: Room, word: u8, byte: u8, link: u32) -> Room {
-    let mut s = r;
+// A record with another entry.
+fn with_entry(mut r: Room, c: Command) -> Room {
+    let j = c.b;
+    if j < ROOMS {
+        r.entries[j] = Entry {
+            mode: byte(c.c),
+            link: link(c.d),
+        };
+    }
+    r
+}
+
+// A record with another field, or another entry.
+fn changed_room(mut r: Room, c: Command) -> Room {
+    let value = byte(c.b);
+    let word = c.word;
     match word {
         words::HELD => {
-            s.held = byte;
+            r.held = value;
         }
         words::WANTED => {
-            s.wanted = byte;
+            r.wanted = value;
         }
         words::TOKEN => {
-            s.token = byte != 0;
+            r.token = value != 0;
         }
         words::TOWARD => {
-            s.toward = byte;
+            r.toward = value;
         }
         words::LENDER => {
-            s.lender = byte;
+            r.lender = value;
         }
         words::CREDIT => {
-            s.credit = byte;
+            r.credit = value;
         }
         words::LINK => {
-            s.link = link;
+            r.link = link(c.b);
         }
         words::COUNTER => {
-            s.counter = link;
+            r.counter = link(c.b);
         }
-        _ => {}
+        _ => return with_entry(r, c),
     }
-    s
+    r
 }
 
-// Room c with another field.
-pub fn with_room(t: Table, c: usize, word: u8, byte: u8, link: u32) -> Table {
-    let mut u = t;
-    if c < ROOMS {
-        let r = u.rooms[c];
-        u.rooms[c] = with_field(r, word, byte, link);
+// A room's record is changed.
+pub fn with_room(mut t: Table, c: Command) -> Table {
+    let at = c.a;
+    if at < ROOMS {
+        let r = t.rooms[at];
+        t.rooms[at] = changed_room(r, c);
     }
-    u
-}
-
-// Room c with another entry for room j.
-pub fn with_entry(t: Table, c: usize, j: usize, mode: u8, link: u32) -> Table {
-    let mut u = t;
-    if c < ROOMS && j < ROOMS {
-        let mut r = u.rooms[c];
-        r.entries[j] = Entry {
-            mode: mode,
-            link: link,
-        };
-        u.rooms[c] = r;
-    }
-    u
+    t
 }
 
 // Place i of the queue.
-pub fn with_place(t: Table, i: usize, room: u8, mode: u8) -> Table {
-    let mut u = t;
+fn with_place(mut t: Table, i: usize, room: u8, mode: u8) -> Table {
     if i < QUEUE {
-        u.queue[i] = Queued {
+        t.queue[i] = Queued {
             room: room,
             mode: mode,
         };
     }
-    u
+    t
 }
 
 // A room joins the end of the queue.
-pub fn with_joined(t: Table, room: u8, mode: u8) -> Table {
+fn with_joined(t: Table, room: u8, mode: u8) -> Table {
     let at = t.queued;
     let mut u = with_place(t, at, room, mode);
     if at < QUEUE {
@@ -90,46 +90,65 @@ pub fn with_joined(t: Table, room: u8, mode: u8) -> Table {
     u
 }
 
-// Wire i.
-pub fn with_wire(t: Table, i: usize, w: Wire) -> Table {
-    let mut u = t;
-    if i < WIRES {
-        u.wires[i] = w;
+// Another message on wire i, or one more where there is no such wire.
+pub fn with_message(mut t: Table, i: usize, w: Wire) -> Table {
+    let mut at = i;
+    if i >= WIRES {
+        at = t.count;
+        if at < WIRES {
+            t.count = at + 1;
+        }
     }
-    u
-}
-
-// One more message.
-pub fn with_sent(t: Table, w: Wire) -> Table {
-    let at = t.count;
-    let mut u = with_wire(t, at, w);
     if at < WIRES {
-        u.count = at + 1;
+        t.wires[at] = w;
     }
-    u
-}
-
-// The smaller of two.
-fn least(a: usize, b: usize) -> usize
-    ensures { λ r. ⌜ r ≤ b ⌝ }
-{
-    if a < b { a } else { b }
+    t
 }
 
 // REDUCEs from room 1 to room 0 up to so many messages.
-pub fn with_reduces(t: Table, count: usize) -> Table {
+fn with_reduces(t: Table, count: usize) -> Table {
     let w = Wire {
         from: 1,
         to: 0,
         message: Message::Reduce { link: 7, mode: 0 },
     };
-    let end = least(count, WIRES);
     let mut u = t;
     let mut i = t.count;
-    while i < end {
-        u.wires[i] = w;
+    while i < WIRES {
+        if i < count {
+            u = with_message(u, WIRES, w);
+        }
         i += 1;
     }
-    u.count = i;
     u
+}
+
+// A fresh table of n rooms.
+fn fresh(n: u8) -> Table {
+    let a = table::fresh(n);
+    a.table
+}
+
+// A fresh table, or one with another queue, other messages or other sizes.
+pub fn changed(mut t: Table, c: Command) -> Table {
+    let word = c.word;
+    match word {
+        words::FRESH => fresh(byte(c.a)),
+        words::FILL => with_reduces(t, c.a),
+        words::JOIN => with_joined(t, byte(c.a), byte(c.b)),
+        words::PLACE => with_place(t, c.a, byte(c.b), byte(c.c)),
+        words::ROOMS => {
+            t.n = byte(c.a);
+            t
+        }
+        words::QUEUED => {
+            t.queued = c.a;
+            t
+        }
+        words::COUNT => {
+            t.count = c.a;
+            t
+        }
+        _ => t,
+    }
 }

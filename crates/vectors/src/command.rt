@@ -1,38 +1,43 @@
 // A command, read byte by byte: a word and its values, with single spaces between them. Values that are not there are zero.
-use crate::words::LETTERS;
 
-// The values that a command can have.
-const VALUES: usize = 5;
-
+// A word whose number is below this one takes another letter.
+const LONG: u64 = 0x01_00_00_00_00_00_00_00;
 // No value goes on growing from here.
 const LARGE: usize = 100000000000;
 // After the I of IR or IW.
 const INTENT: usize = LARGE + 1;
 
-// Part 0 of a command is its word, part k its value k - 1.
+// Part 0 of a command is its word, parts 1 to 5 its values a to e.
 pub struct Command {
-    pub word: [u8; LETTERS],
-    pub letters: usize,
-    pub values: [usize; VALUES],
-    pub part: usize,
+    pub part: u8,
+    pub word: u64,
+    pub a: usize,
+    pub b: usize,
+    pub c: usize,
+    pub d: usize,
+    pub e: usize,
 }
 
 // Before the first byte.
 pub fn none() -> Command {
     Command {
-        word: [0; LETTERS],
-        letters: 0,
-        values: [0; VALUES],
         part: 0,
+        word: 0,
+        a: 0,
+        b: 0,
+        c: 0,
+        d: 0,
+        e: 0,
     }
 }
 
-// A number after one more digit.
-fn with_digit(value: usize, digit: u8) -> usize {
-    if value < LARGE && digit < 10 {
-        return value * 10 + digit as usize;
+// A word after one more letter.
+fn lettered(word: u64, b: u8) -> u64 {
+    if word < LONG {
+        word * 256 + b as u64
+    } else {
+        word
     }
-    value
 }
 
 // One of two modes: the one after an I, and the one without.
@@ -47,7 +52,13 @@ fn either(value: usize, intent: u8, plain: u8) -> usize {
 // A value after one more byte: a digit, or a letter of a mode's name.
 fn grown(value: usize, b: u8) -> usize {
     match b {
-        b'0'..=b'9' => with_digit(value, b - b'0'),
+        b'0'..=b'9' => {
+            if value < LARGE {
+                value * 10 + (b - b'0') as usize
+            } else {
+                value
+            }
+        }
         b'I' => INTENT,
         b'R' => either(value, modes::IR, modes::R),
         b'U' => modes::U as usize,
@@ -56,70 +67,50 @@ fn grown(value: usize, b: u8) -> usize {
     }
 }
 
-impl Command {
-    // One more letter of the word.
-    fn with_letter(self, b: u8) -> Command {
-        let at = self.letters;
-        let mut c = self;
-        if at < LETTERS {
-            c.word[at] = b;
-            c.letters = at + 1;
-        }
-        c
-    }
-
-    // One more byte of value k.
-    fn with_byte(self, k: usize, b: u8) -> Command {
-        let mut c = self;
-        if k < VALUES {
-            let value = c.values[k];
-            c.values[k] = grown(value, b);
-        }
-        c
-    }
-
-    // The next part begins, but for spaces before the word.
-    fn with_space(self) -> Command {
-        let part = self.part;
-        let mut c = self;
-        if part < VALUES {
-            if c.letters > 0 {
+// The command after one more byte. At a space its next part begins, but for spaces before the word.
+pub fn after(mut c: Command, byte: u8) -> Command {
+    let part = c.part;
+    if byte == b' ' {
+        if part < 5 {
+            if c.word != 0 {
                 c.part = part + 1;
             }
         }
-        c
+        return c;
     }
-
-    // The command after one more byte.
-    pub fn after(self, b: u8) -> Command {
-        if b == b' ' {
-            return self.with_space();
+    match part {
+        0 => {
+            c.word = lettered(c.word, byte);
         }
-        let part = self.part;
-        if part == 0 {
-            return self.with_letter(b);
+        1 => {
+            c.a = grown(c.a, byte);
         }
-        self.with_byte(part - 1, b)
-    }
-
-    // Value k.
-    pub fn value(self, k: usize) -> usize {
-        if k < VALUES { self.values[k] } else { 0 }
-    }
-
-    // Value k as a byte: 255 where it is larger.
-    pub fn byte(self, k: usize) -> u8 {
-        let value = self.value(k);
-        if value < 256 { value as u8 } else { 255 }
-    }
-
-    // Value k as a link number: the last one where it is larger.
-    pub fn link(self, k: usize) -> u32 {
-        let value = self.value(k);
-        if value < 4294967296 {
-            value as u32
-        } else {
-            room::LAST_LINK
+        2 => {
+            c.b = grown(c.b, byte);
         }
+        3 => {
+            c.c = grown(c.c, byte);
+        }
+        4 => {
+            c.d = grown(c.d, byte);
+        }
+        _ => {
+            c.e = grown(c.e, byte);
+        }
+    }
+    c
+}
+
+// A value as a byte: 255 where it is larger.
+pub fn byte(value: usize) -> u8 {
+    if value < 256 { value as u8 } else { 255 }
+}
+
+// A value as a link number: the last one where it is larger.
+pub fn link(value: usize) -> u32 {
+    if value < 4294967296 {
+        value as u32
+    } else {
+        room::LAST_LINK
     }
 }

@@ -1,38 +1,16 @@
 // The lines of the input. A line is a label, a colon, and commands with semicolons between them; one that starts with # is a remark,
 // and one that starts with its colon prints nothing.
-ghost use Prim.Native.Nat.{_≤_};
-ghost use lib.ListN.{length};
 use crate::command;
 use crate::desk;
 use crate::desk::Desk;
-
-// The first place of a byte, from a place on; the end where there is none.
-fn place_of(text: &[u8], from: usize, b: u8) -> usize
-    requires { ⌜ from ≤ length (now text) ⌝ }
-    ensures { λ r. ⌜ (from ≤ r) × (r ≤ length (now (text .entry))) ⌝ }
-{
-    let mut i = from;
-    while i < text.len() {
-        if text[i] == b {
-            return i;
-        }
-        i += 1;
-    }
-    text.len()
-}
+use bytes::scan::find;
 
 // The number that a line's last event gave back, and what went wrong.
-fn show(number: u8, fault: u8) {
+fn show(number: u8, fault: bool) {
     io::write_all(1, b": ");
     io::print_decimal(1, number as u64);
-    match fault {
-        desk::NOT_UNDERSTOOD => {
-            io::write_all(1, b", a word not understood");
-        }
-        desk::NOT_AS_IT_CAME => {
-            io::write_all(1, b", the table not as it came");
-        }
-        _ => {}
+    if fault {
+        io::write_all(1, b", a word not understood");
     }
     io::write_all(1, b"\n");
 }
@@ -48,7 +26,7 @@ fn obey_all(d: Desk, line: &[u8], from: usize) -> Desk {
             e = desk::obey(e, c);
             c = command::none();
         } else {
-            c = c.after(b);
+            c = command::after(c, b);
         }
         i += 1;
     }
@@ -57,8 +35,9 @@ fn obey_all(d: Desk, line: &[u8], from: usize) -> Desk {
 
 // One line.
 fn take(d: Desk, line: &[u8]) -> Desk {
-    let colon = place_of(line, 0, b':');
-    if colon >= line.len() {
+    let end = line.len();
+    let colon = find(line, 0, end, b':');
+    if colon >= end {
         return d;
     }
     if line[0] == b'#' {
@@ -68,7 +47,7 @@ fn take(d: Desk, line: &[u8]) -> Desk {
     if colon > 0 {
         io::write_all(1, &line[..colon]);
         show(e.number, e.fault);
-        e.fault = desk::NO_FAULT;
+        e.fault = false;
     }
     e
 }
@@ -76,11 +55,12 @@ fn take(d: Desk, line: &[u8]) -> Desk {
 // All lines.
 pub fn take_all(text: &[u8]) {
     let mut d = desk::bare();
+    let last = text.len();
     let mut from: usize = 0;
-    while from < text.len() {
-        let end = place_of(text, from, b'\n');
+    while from < last {
+        let end = find(text, from, last, b'\n');
         d = take(d, &text[from..end]);
-        if end >= text.len() {
+        if end >= last {
             return;
         }
         from = end + 1;

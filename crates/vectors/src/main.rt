@@ -4,7 +4,6 @@ mod change; // change.rt: a table with one thing changed
 mod command; // command.rt: a command, read byte by byte
 mod desk; // desk.rt: the table at hand, and what a command does to it
 mod lines; // lines.rt: the lines of the input
-mod same; // same.rt: whether a refused table came back as it was
 mod words; // words.rt: the words of the commands
 
 fn main() {

@@ -1,126 +1,60 @@
-// The words of the commands, each with a number: its place in the list.
+// The words of the commands, each as the number that its letters are: two digits of the number for a letter.
+pub const NEW: u64 = 0x6e; // n
 
-// The letters that a word can have.
-pub const LETTERS: usize = 8;
-// How many words there are.
-const WORDS: usize = 30;
+pub const ASK: u64 = 0x61; // a
 
-pub const NEW: u8 = 0;
+pub const UPGRADE: u64 = 0x75; // u
 
-pub const ASK: u8 = 1;
+pub const HANDBACK: u64 = 0x68; // h
 
-pub const UPGRADE: u8 = 2;
+pub const DELIVER: u64 = 0x64; // d
 
-pub const HANDBACK: u8 = 3;
+pub const EVENT: u64 = 0x65_76_65_6e_74; // event
 
-pub const DELIVER: u8 = 4;
+pub const TAKE: u64 = 0x74_61_6b_65; // take
 
-pub const EVENT: u8 = 5;
+pub const KEEP: u64 = 0x6b_65_65_70; // keep
 
-pub const TAKE: u8 = 6;
+pub const AT: u64 = 0x61_74; // at
 
-pub const KEEP: u8 = 7;
+pub const REQUEST: u64 = 0x72_65_71_75_65_73_74; // request
 
-pub const AT: u8 = 8;
+pub const GRANT: u64 = 0x67_72_61_6e_74; // grant
 
-pub const REQUEST: u8 = 9;
+pub const PASS: u64 = 0x70_61_73_73; // pass
 
-pub const GRANT: u8 = 10;
+pub const REDUCE: u64 = 0x72_65_64_75_63_65; // reduce
 
-pub const PASS: u8 = 11;
+pub const NOTHING: u64 = 0x6e_6f_74_68_69_6e_67; // nothing
 
-pub const REDUCE: u8 = 12;
+pub const HELD: u64 = 0x68_65_6c_64; // held
 
-pub const NOTHING: u8 = 13;
+pub const WANTED: u64 = 0x77_61_6e_74_65_64; // wanted
 
-pub const HELD: u8 = 14;
+pub const TOKEN: u64 = 0x74_6f_6b_65_6e; // token
 
-pub const WANTED: u8 = 15;
+pub const TOWARD: u64 = 0x74_6f_77_61_72_64; // toward
 
-pub const TOKEN: u8 = 16;
+pub const LENDER: u64 = 0x6c_65_6e_64_65_72; // lender
 
-pub const TOWARD: u8 = 17;
+pub const CREDIT: u64 = 0x63_72_65_64_69_74; // credit
 
-pub const LENDER: u8 = 18;
+pub const LINK: u64 = 0x6c_69_6e_6b; // link
 
-pub const CREDIT: u8 = 19;
+pub const COUNTER: u64 = 0x63_6f_75_6e_74_65_72; // counter
 
-pub const LINK: u8 = 20;
+pub const ENTRY: u64 = 0x65_6e_74_72_79; // entry
 
-pub const COUNTER: u8 = 21;
+pub const FRESH: u64 = 0x66_72_65_73_68; // fresh
 
-pub const ENTRY: u8 = 22;
+pub const FILL: u64 = 0x66_69_6c_6c; // fill
 
-pub const FRESH: u8 = 23;
+pub const JOIN: u64 = 0x6a_6f_69_6e; // join
 
-pub const FILL: u8 = 24;
+pub const PLACE: u64 = 0x70_6c_61_63_65; // place
 
-pub const JOIN: u8 = 25;
+pub const ROOMS: u64 = 0x72_6f_6f_6d_73; // rooms
 
-pub const PLACE: u8 = 26;
+pub const QUEUED: u64 = 0x71_75_65_75_65_64; // queued
 
-pub const ROOMS: u8 = 27;
-
-pub const QUEUED: u8 = 28;
-
-pub const COUNT: u8 = 29;
-
-const LIST: [[u8; LETTERS]; WORDS] = [
-    [b'n', 0, 0, 0, 0, 0, 0, 0],
-    [b'a', 0, 0, 0, 0, 0, 0, 0],
-    [b'u', 0, 0, 0, 0, 0, 0, 0],
-    [b'h', 0, 0, 0, 0, 0, 0, 0],
-    [b'd', 0, 0, 0, 0, 0, 0, 0],
-    [b'e', b'v', b'e', b'n', b't', 0, 0, 0],
-    [b't', b'a', b'k', b'e', 0, 0, 0, 0],
-    [b'k', b'e', b'e', b'p', 0, 0, 0, 0],
-    [b'a', b't', 0, 0, 0, 0, 0, 0],
-    [b'r', b'e', b'q', b'u', b'e', b's', b't', 0],
-    [b'g', b'r', b'a', b'n', b't', 0, 0, 0],
-    [b'p', b'a', b's', b's', 0, 0, 0, 0],
-    [b'r', b'e', b'd', b'u', b'c', b'e', 0, 0],
-    [b'n', b'o', b't', b'h', b'i', b'n', b'g', 0],
-    [b'h', b'e', b'l', b'd', 0, 0, 0, 0],
-    [b'w', b'a', b'n', b't', b'e', b'd', 0, 0],
-    [b't', b'o', b'k', b'e', b'n', 0, 0, 0],
-    [b't', b'o', b'w', b'a', b'r', b'd', 0, 0],
-    [b'l', b'e', b'n', b'd', b'e', b'r', 0, 0],
-    [b'c', b'r', b'e', b'd', b'i', b't', 0, 0],
-    [b'l', b'i', b'n', b'k', 0, 0, 0, 0],
-    [b'c', b'o', b'u', b'n', b't', b'e', b'r', 0],
-    [b'e', b'n', b't', b'r', b'y', 0, 0, 0],
-    [b'f', b'r', b'e', b's', b'h', 0, 0, 0],
-    [b'f', b'i', b'l', b'l', 0, 0, 0, 0],
-    [b'j', b'o', b'i', b'n', 0, 0, 0, 0],
-    [b'p', b'l', b'a', b'c', b'e', 0, 0, 0],
-    [b'r', b'o', b'o', b'm', b's', 0, 0, 0],
-    [b'q', b'u', b'e', b'u', b'e', b'd', 0, 0],
-    [b'c', b'o', b'u', b'n', b't', 0, 0, 0],
-];
-
-// Whether this is word k of the list.
-fn is_word(word: [u8; LETTERS], k: usize) -> bool {
-    if k >= WORDS {
-        return false;
-    }
-    let mut j: usize = 0;
-    while j < LETTERS {
-        if word[j] != LIST[k][j] {
-            return false;
-        }
-        j += 1;
-    }
-    true
-}
-
-// The number of a word; that of no word is past them all.
-pub fn number_of(word: [u8; LETTERS]) -> u8 {
-    let mut k: u8 = 0;
-    while (k as usize) < WORDS {
-        if is_word(word, k as usize) {
-            return k;
-        }
-        k += 1;
-    }
-    k
-}
+pub const COUNT: u64 = 0x63_6f_75_6e_74; // count

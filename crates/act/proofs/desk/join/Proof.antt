@@ -8,16 +8,16 @@ use Rattle.act.proofs.desk.join.Tie as tie
 mul-t7 : tie.Need-mul-t7
 mul-t7 c = search needs
 
-element-set-from-e : tie.Need-element-set-from-e
-element-set-from-e c = search needs
+element-set-from-d : tie.Need-element-set-from-d
+element-set-from-d c = search needs
 
-add-e : tie.Need-add-e
-add-e c = search needs
+add-d : tie.Need-add-d
+add-d c = search needs
 
 returns : tie.Need-returns
 returns c =
-    let long = queue-long (c .args .d) (c .good .0) in
+    let long = queue-long (c .args .t1) (c .good .0) in
     join-is _ _ _ (omega arith) (omega arith)
 
 pub join-spec : {M : Type 1} → statement M
-join-spec = tie.close (tie.spec mul-t7 element-set-from-e add-e returns)
+join-spec = tie.close (tie.spec mul-t7 element-set-from-d add-d returns)

@@ -5,19 +5,19 @@ use borrow.Author.Needs.{needs}
 use Rattle.act.proofs.desk.post.Statement.{statement}
 use Rattle.act.proofs.desk.post.Tie as tie
 
-mul-t7 : tie.Need-mul-t7
-mul-t7 c = search needs
+mul-t8 : tie.Need-mul-t8
+mul-t8 c = search needs
 
-element-set-from-e : tie.Need-element-set-from-e
-element-set-from-e c = search needs
+element-set-from-d : tie.Need-element-set-from-d
+element-set-from-d c = search needs
 
-add-e : tie.Need-add-e
-add-e c = search needs
+add-d : tie.Need-add-d
+add-d c = search needs
 
 returns : tie.Need-returns
 returns c =
-    let long = out-long (c .args .d) (c .good .0) in
+    let long = out-long (c .args .t1) (c .good .0) in
     post-is _ _ _ (omega arith) (omega arith)
 
 pub post-spec : {M : Type 1} → statement M
-post-spec = tie.close (tie.spec mul-t7 element-set-from-e add-e returns)
+post-spec = tie.close (tie.spec mul-t8 element-set-from-d add-d returns)

@@ -32,8 +32,8 @@ returns-3 c =
     let long = queue-long (s .args .t1) (s .good .0) in
     turn-conflict (s .args .t1) (s .pre) _ (c .before .before .before .before .before .upgrade-waits .ensures) (c .before .before .before .before .if2 .left) (c .before .before .before .before .before .before .before .if1 .left) (omega arith) _ (c .before .before .owned .ensures) _ (c .before .agree .ensures) (c .if3 .taken)
 
-add-e : tie.Need-add-e
-add-e c = search needs
+add-d : tie.Need-add-d
+add-d c = search needs
 
 hold-requires : tie.Need-hold-requires
 hold-requires c κs = search needs
@@ -77,7 +77,7 @@ turn-spec =
     owned-requires
     agree-requires
     returns-3
-    add-e
+    add-d
     hold-requires
     returns-4
     can-lend-requires

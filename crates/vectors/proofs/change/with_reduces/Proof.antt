@@ -4,22 +4,16 @@ use Rattle.vectors.proofs.change.with_reduces.Statement.{statement}
 use Rattle.vectors.proofs.change.with_reduces.Tie as tie
 
 abbrev Inv-loop : tie.InvT-loop
-Inv-loop count w end u₀ i₀ u i = end ≤ 256
+Inv-loop count w u₀ i₀ u i = i₀ ≤ i
 
 abbrev μ-loop : tie.MeasureT-loop
-μ-loop count w end u₀ i₀ u i = end - i
-
-least-requires : tie.Need-least-requires Inv-loop μ-loop
-least-requires c κs = search needs
+μ-loop count w u₀ i₀ u i = 256 - i
 
 loop-holds : tie.Need-loop-holds Inv-loop μ-loop
 loop-holds c = search needs
 
-mul-w : tie.Need-mul-w Inv-loop μ-loop
-mul-w c = search needs
-
-element-set-from-w : tie.Need-element-set-from-w Inv-loop μ-loop
-element-set-from-w c = search needs
+with-message-requires : tie.Need-with-message-requires Inv-loop μ-loop
+with-message-requires c κs = search needs
 
 add-i : tie.Need-add-i Inv-loop μ-loop
 add-i c = search needs
@@ -36,14 +30,4 @@ returns c = search needs
 pub with-reduces-spec : {M : Type 1} → statement M
 with-reduces-spec =
     tie.close
-    (tie.spec
-    Inv-loop
-    μ-loop
-    least-requires
-    loop-holds
-    mul-w
-    element-set-from-w
-    add-i
-    loop-less
-    loop-again
-    returns)
+    (tie.spec Inv-loop μ-loop loop-holds with-message-requires add-i loop-less loop-again returns)

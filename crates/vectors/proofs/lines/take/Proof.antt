@@ -4,8 +4,8 @@ use lib.Seq.{length-take-le}
 use Rattle.vectors.proofs.lines.take.Statement.{statement}
 use Rattle.vectors.proofs.lines.take.Tie as tie
 
-place-of-requires : tie.Need-place-of-requires
-place-of-requires c κs = search needs
+find-requires : tie.Need-find-requires
+find-requires c κs = search needs
 
 returns : tie.Need-returns
 returns c = search needs
@@ -23,7 +23,7 @@ obey-all-requires : tie.Need-obey-all-requires
 obey-all-requires c κs = search needs
 
 slice-aggregate-write-all : tie.Need-slice-aggregate-write-all
-slice-aggregate-write-all c = sym (length-take-le _ _ (c .before .before .before .before .before .before .place-of .ensures .1))
+slice-aggregate-write-all c = sym (length-take-le _ _ (c .before .before .before .before .before .before .find .ensures .1))
 
 write-all-requires : tie.Need-write-all-requires
 write-all-requires c κs = search needs
@@ -41,7 +41,7 @@ pub take-spec : {M : Type 1} → statement M
 take-spec =
     tie.close
     (tie.spec
-    place-of-requires
+    find-requires
     returns
     shared-slice-read-if2
     returns-2

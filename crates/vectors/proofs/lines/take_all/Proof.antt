@@ -1,14 +1,15 @@
 use borrow.Author.Needs.{needs}
+use mathlib.Core.Path.{_≡_}
 use Prim.Native.Nat.{_≤_, _-_}
 use lib.ListN.{length}
 use Rattle.vectors.proofs.lines.take_all.Statement.{statement}
 use Rattle.vectors.proofs.lines.take_all.Tie as tie
 
 abbrev Inv-loop : tie.InvT-loop
-Inv-loop text d₀ from₀ d from = from ≤ length text
+Inv-loop text d₀ last from₀ d from = (last ≡ length text) × (from ≤ last)
 
 abbrev μ-loop : tie.MeasureT-loop
-μ-loop text d₀ from₀ d from = length text - from
+μ-loop text d₀ last from₀ d from = last - from
 
 bare-requires : tie.Need-bare-requires Inv-loop μ-loop
 bare-requires c κs = search needs
@@ -16,8 +17,8 @@ bare-requires c κs = search needs
 loop-holds : tie.Need-loop-holds Inv-loop μ-loop
 loop-holds c = search needs
 
-place-of-requires : tie.Need-place-of-requires Inv-loop μ-loop
-place-of-requires c κs = search needs
+find-requires : tie.Need-find-requires Inv-loop μ-loop
+find-requires c κs = search needs
 
 sub-take : tie.Need-sub-take Inv-loop μ-loop
 sub-take c = search needs
@@ -54,7 +55,7 @@ take-all-spec =
     μ-loop
     bare-requires
     loop-holds
-    place-of-requires
+    find-requires
     sub-take
     part-take-start
     part-take-end
