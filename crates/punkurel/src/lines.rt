@@ -31,8 +31,10 @@ fn nothing() -> Begun {
     }
 }
 
+// Before the first line: the table that a refused `n` gives, which has no rooms.
 pub fn start() -> Talk {
-    let table = session::blank();
+    let none = table::fresh(0);
+    let table = none.table;
     let begun = nothing();
     Talk {
         table: table,

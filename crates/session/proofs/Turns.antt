@@ -17,9 +17,6 @@ use Rattle.reading.specs.Lines.{commandOf}
 use Rattle.writing.specs.Written.{lengthOf, writtenOf}
 use Rattle.session.specs.Turns.{begun, unread, obeyed, answerTo, turnedOf}
 
-pub blank-is : (a : Answer) → a ≡ freshOf 0 → a .table ≡ freshOf 0 .table
-blank-is a e = ap (λ (x : Answer). x .table) e
-
 module _ (t : Table) where
   pub unread-blank : t .n ≡ 0 → answer 1 t ≡ unread t
   unfolding unread

@@ -17,14 +17,6 @@ pub struct Turned {
     pub length: usize,
 }
 
-// The table that there is before the first line.
-pub fn blank() -> Table
-    ensures { λ r. ⌜ r ≡ freshOf 0 .table ⌝ }
-{
-    let none = table::fresh(0);
-    none.table
-}
-
 // A fresh table of n rooms; the one that there is where n is refused.
 fn begin(t: Table, n: u8) -> Answer
     ensures { λ r. ⌜ r ≡ begun t (freshOf n) ⌝ }
