@@ -17,12 +17,11 @@ pub record Counted (times : List ℕ) (f : ℕ → ℕ) : Type 0 where
 
 -- one more for the room `at`, and for none where there is no such room
 module _ (times : List ℕ) (f g : ℕ → ℕ) (k : Counted times f) (at : ℕ) (more : (c : ℕ) → c < 16 → g c ≡ f c + one (eqb at c)) (after : List ℕ) where
-  pub counted-raised : after ≡ set times at (getD times at 0 + 1) → Counted after g
-  counted-raised e = rw e (record { long = simp length-set (k .long); at = λ c l. go c l (same? c at) })
+  pub counted-raised : at < 16 → after ≡ set times at (getD times at 0 + 1) → Counted after g
+  counted-raised h e = rw e (record { long = simp length-set (k .long); at = λ c l. go c l (same? c at) })
     where
       go : (c : ℕ) → c < 16 → (c ≡ at) ⊎ (c ≡ at → ⊥) → getD (set times at (getD times at 0 + 1)) c 0 ≡ g c
       go c l (inl p) =
-          let h : at < 16 = omega arith in
           rw p
           (getD-set-same times at (getD times at 0 + 1) 0 (omega (arith, k .long))
           ∙ omega (arith, k .at at h, more at h, ap one (eq-eqb at at refl)))

@@ -1,5 +1,5 @@
 -- What the queue and the messages name, and how often.
-use Prim.Native.Nat.{ℕ, _+_}
+use Prim.Native.Nat.{ℕ}
 use mathlib.Core.Bool.{Bool, true, false}
 use mathlib.Core.List.{List}
 use lib.ListN.{getD, take, replicate}
@@ -13,7 +13,7 @@ use Rattle.table.specs.declared.Queued.{Queued}
 use Rattle.table.specs.declared.Wire.{Wire}
 use Rattle.table.specs.declared.Message.{Message}
 use Rattle.table.specs.declared.Message.the-variants as msg
-use Rattle.table.specs.Limits.{queueLimit, wireLimit}
+use Rattle.table.specs.Limits.{queueLimit}
 use Rattle.table.specs.Tables.{noQueued}
 use Rattle.table.specs.Formed.{queuedFine, isBlankQueued, wireFine, isBlankWire}
 use Rattle.formed.specs.declared.rooms.Standing.{Standing}
@@ -28,10 +28,6 @@ queuePlaceFine n rooms used q = if used then queuedFine n (roomsOf rooms) q else
 
 unfoldable pub wirePlaceFine : ℕ → List Standing → Bool → Wire → Bool
 wirePlaceFine n rooms used w = if used then wireFine n (roomsOf rooms) w else isBlankWire w
-
--- a room is named at the most once by each place of the queue and each wire
-abbrev pub mostNames : ℕ
-mostNames = queueLimit + wireLimit
 
 -- how often an array of places, of which the first `queued` are in use, names each room; where one is not fine, no more than that
 unfoldable pub namedIn : ℕ → List Standing → List Queued → ℕ → Named

@@ -1,9 +1,6 @@
 // The places of the queue: each names a waiting room, or is blank.
 ghost use mathlib.Core.Path.{_≡_};
-ghost use Prim.Native.Nat.{ℕ, _+_, _≤_, _<_};
-ghost use lib.ListN.{getD, set};
-ghost use Rattle.room.specs.Limits.{roomLimit};
-ghost use Rattle.formed.specs.Names.{mostNames, queuePlaceFine, namedIn};
+ghost use Rattle.formed.specs.Names.{queuePlaceFine, namedIn};
 use super::ranges::is_mode;
 use super::rooms::Standing;
 use super::rooms::standing_at;
@@ -35,19 +32,6 @@ fn place_fine(n: u8, rooms: [Standing; ROOMS], used: bool, q: Queued) -> bool
     room.due == q.mode
 }
 
-// How often each room is named, with once more for the room `at`, if there is such a room.
-// Only for proved callers in this crate: no count is near the largest number.
-pub fn raised(times: [usize; ROOMS], at: usize) -> [usize; ROOMS]
-    requires { ⌜ ((c : ℕ) → c < roomLimit → getD times c 0 ≤ mostNames) ⌝ }
-    ensures { λ r. ⌜ r ≡ set times at (getD times at 0 + 1) ⌝ }
-{
-    let mut more = times;
-    if at < ROOMS {
-        more[at] += 1;
-    }
-    more
-}
-
 // All the places, of which the first `queued` are in use.
 pub fn look_over(n: u8, rooms: [Standing; ROOMS], queue: [Queued; QUEUE], queued: usize) -> Named
     ensures { λ r. ⌜ r ≡ namedIn n rooms queue queued ⌝ }
@@ -63,8 +47,8 @@ pub fn look_over(n: u8, rooms: [Standing; ROOMS], queue: [Queued; QUEUE], queued
             };
         }
         if i < queued {
-            let more = raised(times, q.room as usize);
-            times = more;
+            let at = q.room as usize;
+            times[at] += 1;
         }
         i += 1;
     }

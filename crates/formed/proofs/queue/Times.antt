@@ -1,20 +1,25 @@
 -- What the loop over the queue's places gathers: how often each room is named.
 use mathlib.Core.Path.{_≡_, refl, sym, _∙_}
-use mathlib.Core.Bool.{true, false}
+use mathlib.Core.Logic.{_⊎_, inl, inr}
+use mathlib.Core.Bool.{true, false, _&&_}
 use mathlib.Core.List.{List}
 use Prim.Native.Nat.{ℕ, _+_, _≤_, _<_}
 use native.Mathlib.Omega.{arith}
 use lib.ListN.{length, getD, take, replicate, getD-replicate}
-use lib.Dec.{ltb, eqb}
-use borrow.Author.Tests.{ne-eqb}
+use lib.Dec.{ltb, leb, eqb}
+use borrow.Author.Tests.{leb-true, eqb-true, lt-ltb, ne-eqb}
+use Rattle.base.specs.Tests.{and-left, and-right}
 use Rattle.base.specs.Below.{allBelow, all-fails}
-use Rattle.base.specs.Sums.{one}
+use Rattle.base.specs.Sums.{one, below?}
 use Rattle.base.specs.Lists.{count, total-none}
 use Rattle.table.specs.declared.Queued.{Queued}
 use Rattle.table.specs.Tables.{noQueued}
+use Rattle.table.specs.Formed.{isMode, due, queuedFine}
 use Rattle.formed.specs.declared.rooms.Standing.{Standing}
+use Rattle.formed.specs.Seen.{standingAt, roomsOf}
 use Rattle.formed.specs.Names.{queuePlaceFine, namedIn}
 use Rattle.formed.proofs.Lists.{listed-is, prefix-low, prefix-all, prefix-next}
+use Rattle.formed.proofs.rooms.Laws.{standing-past}
 use Rattle.formed.proofs.Counted.{Counted}
 
 -- how many of the first i places, of those in use, name the room c
@@ -73,3 +78,26 @@ module _ (n : ℕ) (rooms : List Standing) (queue : List Queued) (queued : ℕ) 
             (k .long)
             (λ c h. k .at c h ∙ prefix-all (λ q. eqb (q .room) c) queue queued 16 (omega arith)),
       )
+
+  -- a place that is fine and in use names a room that waits, and so one of the sixteen
+  due-is : (q : Queued) → queuedFine n (roomsOf rooms) q ≡ true → (isMode (q .mode) ≡ true) × (eqb (standingAt rooms (q .room) .due) (q .mode) ≡ true)
+  unfolding queuedFine due
+  due-is q f =
+      let test = eqb (standingAt rooms (q .room) .due) (q .mode) in (
+        and-right (ltb (q .room) n) (isMode (q .mode)) (and-left (ltb (q .room) n && isMode (q .mode)) test f),
+        and-right (ltb (q .room) n && isMode (q .mode)) test f,
+      )
+
+  pub names-low : length rooms ≡ 16 → (i : ℕ) → i < queued → queuePlaceFine n rooms (ltb i queued) (getD queue i noQueued) ≡ true
+      → getD queue i noQueued .room < 16
+  unfolding queuePlaceFine
+  names-low long i h f = go (below? (q .room) 16) (due-is q (simp (lt-ltb i queued h) at f))
+    where
+      q : Queued
+      q = getD queue i noQueued
+
+      go : (q .room < 16) ⊎ (16 ≤ q .room) → (isMode (q .mode) ≡ true) × (eqb (standingAt rooms (q .room) .due) (q .mode) ≡ true) → q .room < 16
+      go (inl l) w = l
+      go (inr l) w =
+          let e : eqb 0 (q .mode) ≡ true = rw (← standing-past rooms (q .room) long l) at (w .1) in
+          absurd (omega (arith, leb-true 1 (q .mode) (and-left (leb 1 (q .mode)) (leb (q .mode) 5) (w .0)), eqb-true 0 (q .mode) e))

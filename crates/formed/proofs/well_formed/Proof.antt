@@ -1,9 +1,10 @@
 use borrow.Author.Needs.{needs}
 use native.Mathlib.Omega.{arith}
 use mathlib.Core.Path.{_≡_}
+use mathlib.Core.Logic.{⊎-elim}
 use Prim.Native.Nat.{_-_}
 use Rattle.table.proofs.Known.{wires-long}
-use Rattle.formed.proofs.Counted.{counted-raised}
+use Rattle.formed.proofs.Counted.{counted-raised, counted-kept}
 use Rattle.formed.proofs.Looked.{Looked, fit-rooms, ill-sizes, looked-times, looked-tokens, looked-ill, names-next, looked-next, well-not, well-so}
 use Rattle.formed.proofs.Begun.{seen-ill, named-ill, begun}
 use Rattle.formed.proofs.well_formed.Statement.{statement}
@@ -51,8 +52,19 @@ returns-4 c = search (needs, looked-ill)
 carried-by-requires : tie.Need-carried-by-requires Inv-loop μ-loop
 carried-by-requires c κs = search needs
 
-raised-requires : tie.Need-raised-requires Inv-loop μ-loop
-raised-requires c κs = λ j h. omega (arith, looked-times _ _ _ _ _ (c .before .before .before .before .before .loop .inv) j h)
+mul-times : tie.Need-mul-times Inv-loop μ-loop
+mul-times c = search needs
+
+array-read-times : tie.Need-array-read-times Inv-loop μ-loop
+array-read-times c = search needs
+
+add-times : tie.Need-add-times Inv-loop μ-loop
+add-times c =
+    let k = c .before .before .before .before .before .before .loop in
+    omega (arith, looked-times _ _ _ _ _ (k .inv) (c .before .carried-by .result .room) (c .if5 .taken))
+
+array-write-times : tie.Need-array-write-times Inv-loop μ-loop
+array-write-times c = search needs
 
 add-tokens : tie.Need-add-tokens Inv-loop μ-loop
 add-tokens c =
@@ -73,7 +85,10 @@ loop-again c =
     let fine = c .before .before .before .if4 .left in
     let carried = c .before .before .carried-by .ensures in
     let more = names-next _ _ _ _ _ (k .inv) turn _ tested fine _ carried in
-    looked-next _ _ _ _ _ (k .inv) turn _ tested fine _ carried _ (counted-raised _ _ _ (k .inv .named) _ more _ (c .before .raised .ensures))
+    looked-next _ _ _ _ _ (k .inv) turn _ tested fine _ carried _ (⊎-elim
+    (λ w. counted-raised _ _ _ (k .inv .named) _ more _ (w .0 .taken) (w .1))
+    (λ w. counted-kept _ _ _ (k .inv .named) _ more _ (w .0 .left) (w .1))
+    (c .before .if5 .came))
 
 times-fine-requires : tie.Need-times-fine-requires Inv-loop μ-loop
 times-fine-requires c κs = fit-rooms _ _ _ (c .before .before .loop .inv .sizes)
@@ -82,13 +97,13 @@ returns-5 : tie.Need-returns-5 Inv-loop μ-loop
 returns-5 c =
     let k = c .before .before .before .loop in
     let e : k .i ≡ 256 = omega arith in
-    well-so _ _ _ _ (rw e at (k .inv)) (c .before .if5 .taken) _ (c .times-fine .ensures)
+    well-so _ _ _ _ (rw e at (k .inv)) (c .before .if6 .taken) _ (c .times-fine .ensures)
 
 returns-6 : tie.Need-returns-6 Inv-loop μ-loop
 returns-6 c =
     let k = c .before .before .loop in
     let e : k .i ≡ 256 = omega arith in
-    well-not _ _ _ _ (rw e at (k .inv)) (c .if5 .left)
+    well-not _ _ _ _ (rw e at (k .inv)) (c .if6 .left)
 
 pub well-formed-spec : {M : Type 1} → statement M
 well-formed-spec =
@@ -108,7 +123,10 @@ well-formed-spec =
     wire-fine-requires
     returns-4
     carried-by-requires
-    raised-requires
+    mul-times
+    array-read-times
+    add-times
+    array-write-times
     add-tokens
     add-i
     loop-less

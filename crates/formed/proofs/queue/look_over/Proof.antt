@@ -5,7 +5,7 @@ use mathlib.Core.Path.{_≡_, refl, sym, _∙_}
 use mathlib.Core.Logic.{⊎-elim}
 use mathlib.Core.Bool.{Bool, true}
 use mathlib.Core.List.{List}
-use Prim.Native.Nat.{ℕ, _≤_, _-_}
+use Prim.Native.Nat.{ℕ, _≤_, _<_, _-_}
 use lib.ListN.{getD}
 use lib.Dec.{ltb}
 use Rattle.base.specs.Below.{allBelow, all-more}
@@ -14,7 +14,7 @@ use Rattle.table.specs.Tables.{noQueued}
 use Rattle.formed.specs.declared.rooms.Standing.{Standing}
 use Rattle.formed.specs.Names.{queuePlaceFine}
 use Rattle.formed.proofs.Counted.{Counted, counted-raised, counted-kept}
-use Rattle.formed.proofs.queue.Times.{placesNaming, naming-none, naming-used, naming-unused, naming-low, named-ill, named-all}
+use Rattle.formed.proofs.queue.Times.{placesNaming, naming-none, naming-used, naming-unused, naming-low, names-low, named-ill, named-all}
 use Rattle.formed.proofs.queue.look_over.Statement.{statement}
 use Rattle.formed.proofs.queue.look_over.Tie as tie
 
@@ -45,14 +45,33 @@ returns : tie.Need-returns Inv-loop μ-loop
 returns c =
     named-ill _ _ _ _ (c .before .before .before .before .loop .i) (omega arith) (sym (c .before .place-fine .ensures) ∙ not-true _ (c .if1 .taken))
 
-cast-raised : tie.Need-cast-raised Inv-loop μ-loop
-cast-raised c = search needs
+cast-at : tie.Need-cast-at Inv-loop μ-loop
+cast-at c = search needs
 
-raised-requires : tie.Need-raised-requires Inv-loop μ-loop
-raised-requires c κs =
+-- a place that is fine and in use names one of the sixteen rooms
+at-low : (c : tie.After-struct-known Inv-loop μ-loop)
+    → getD (c .before .before .before .before .before .before .before .args .t3) (c .before .before .before .before .before .before .loop .i) noQueued .room < 16
+at-low c =
+    let b = c .before .before .before .before .before .before .before in
+    let fine = sym (c .before .before .before .place-fine .ensures) ∙ not-false _ (c .before .before .if1 .left) in
+    let i = c .before .before .before .before .before .before .loop .i in
+    names-low _ (b .args .rooms) (b .args .t3) (b .args .queued) (b .good .1 .0 .1 .0 .1) i (c .before .if2 .taken) fine
+
+mul-times : tie.Need-mul-times Inv-loop μ-loop
+mul-times c = omega (arith, at-low c)
+
+array-read-times : tie.Need-array-read-times Inv-loop μ-loop
+array-read-times c = at-low c
+
+add-times : tie.Need-add-times Inv-loop μ-loop
+add-times c =
     let s = c .before .before .before .before .before .before .before .args in
     let k = c .before .before .before .before .before .before .loop in
-    λ j h. omega (arith, k .inv .2 .at j h, naming-low (s .t3) (s .queued) (k .i) j)
+    let at = getD (s .t3) (k .i) noQueued .room in
+    omega (arith, k .inv .2 .at at (at-low c), naming-low (s .t3) (s .queued) (k .i) at)
+
+array-write-times : tie.Need-array-write-times Inv-loop μ-loop
+array-write-times c = at-low c
 
 add-i : tie.Need-add-i Inv-loop μ-loop
 add-i c = search needs
@@ -66,12 +85,13 @@ loop-again c =
     let k = c .before .before .before .before .before .loop in
     let fine = sym (c .before .before .place-fine .ensures) ∙ not-false _ (c .before .if1 .left) in
     let long = b .good .1 .1 .0 .1 .0 .1 in
+    let low = names-low (b .args .n) (b .args .rooms) (b .args .t3) (b .args .queued) (b .good .1 .0 .1 .0 .1) (k .i) in
     let used = naming-used (b .args .t3) (b .args .queued) (k .i) (omega arith) in
     let unused = naming-unused (b .args .t3) (b .args .queued) (k .i) (omega arith) in (
       omega arith,
       all-more (test (b .args .n) (b .args .rooms) (b .args .t3) (b .args .queued)) (k .i) (k .inv .1) fine,
       ⊎-elim
-          (λ w. counted-raised _ _ _ (k .inv .2) _ (used (w .0 .taken)) _ (w .3 ∙ w .2 .ensures))
+          (λ w. counted-raised _ _ _ (k .inv .2) _ (used (w .0 .taken)) _ (low (w .0 .taken) fine) (w .2))
           (λ w. counted-kept _ _ _ (k .inv .2) 16 (unused (w .0 .left)) _ (omega arith) (w .1))
           (c .if2 .came),
     )
@@ -93,8 +113,11 @@ look-over-spec =
     array-copy-out-q
     place-fine-requires
     returns
-    cast-raised
-    raised-requires
+    cast-at
+    mul-times
+    array-read-times
+    add-times
+    array-write-times
     add-i
     loop-less
     loop-again
