@@ -27,7 +27,7 @@ use Rattle.table.specs.Tables.{noWire}
 use Rattle.rules.specs.Work.{Work, send, join, sendOut, change}
 use Rattle.rules.specs.Rules.{hold, want, lend, pass, settle, upgradeWaits, upgraded}
 use Rattle.act.specs.declared.desk.Desk.{Desk}
-use Rattle.act.specs.Desk.{workOf, outLimit, Stays, Joins, Sends}
+use Rattle.act.specs.Desk.{workOf, outLimit, Stays, Joins, Sends, atQueue}
 
 -- a desk with another record, other messages, or another queue
 abbrev pub atRoom : Desk → Room → Desk
@@ -38,9 +38,6 @@ atWorn d r b = record { me = d .me; room = r; queue = d .queue; first = d .first
 
 abbrev pub atOut : Desk → List Wire → ℕ → Desk
 atOut d o k = record { me = d .me; room = d .room; queue = d .queue; first = d .first; last = d .last; out = o; sent = k; worn = d .worn }
-
-abbrev pub atQueue : Desk → List Queued → ℕ → ℕ → Desk
-atQueue d q f l = record { me = d .me; room = d .room; queue = q; first = f; last = l; out = d .out; sent = d .sent; worn = d .worn }
 
 -- with another record at the most, a desk stays as it is
 stays : (d : Desk) (k : Room) (w : Work) → workOf (atRoom d k) ≡ w → Stays d (atRoom d k) w

@@ -1,16 +1,25 @@
 -- How the code holds a room's work: lists in arrays with counts.
 use Prim.Native.Nat.{ℕ, _+_, _-_, _≤_}
 use mathlib.Core.Path.{_≡_}
-use mathlib.Core.Bool.{Bool, true, false}
+use mathlib.Core.Bool.{Bool, true, false, not}
+use mathlib.Core.List.{List}
 use lib.ListN.{take}
 use lib.Seq.{slice}
+use lib.Dec.{eqb}
+use Rattle.base.specs.Choice.{if_then_else_}
 use Rattle.base.specs.Sums.{one}
 use Rattle.table.specs.Limits.{queueLimit}
 use Rattle.base.specs.Arrays.{padded}
 use Rattle.table.specs.Tables.{noWire}
 use Rattle.rules.specs.Work.{Work}
-use Rattle.rules.specs.Rules.{serveQueue}
+use Rattle.modes.specs.Modes.{agrees, canLend}
+use Rattle.room.specs.declared.Room.{Room}
+use Rattle.room.specs.Owned.{owned}
+use Rattle.table.specs.declared.Queued.{Queued}
+use Rattle.rules.specs.Rules.{hold, lend, pass, upgradeWaits, serveQueue}
 use Rattle.act.specs.declared.desk.Desk.{Desk}
+use Rattle.act.specs.declared.desk.Choice.{Choice}
+use Rattle.act.specs.declared.desk.Choice.the-variants as choice
 
 -- the places of a desk's queue: a room may join a full one
 abbrev pub placeLimit : ℕ
@@ -24,6 +33,10 @@ outLimit = placeLimit + 2
 abbrev pub workOf : Desk → Work
 workOf d =
     record { me = d .me; room = d .room; queue = slice (d .first) (d .last) (d .queue); sent = take (d .sent) (d .out); worn = d .worn }
+
+-- the desk with another queue
+abbrev pub atQueue : Desk → List Queued → ℕ → ℕ → Desk
+atQueue d q f l = record { me = d .me; room = d .room; queue = q; first = f; last = l; out = d .out; sent = d .sent; worn = d .worn }
 
 -- the outbox past what was sent is blank
 pub record Clean (d : Desk) : Type 0 where
@@ -85,3 +98,19 @@ pub record Turns (d : Desk) (again : Bool) (e : Desk) : Type 0 where
   pub same : rest again (workOf e) ≡ rest true (workOf d)
   pub ready : Ready e
   pub falls : e .last - e .first + one again ≤ d .last - d .first
+
+-- what serving does with the head q of the queue, at room me
+unfoldable pub choiceOf : ℕ → Room → Queued → Choice
+choiceOf me r q =
+    if upgradeWaits r then choice.Stop
+    else if not (agrees (owned r) (q .mode)) then choice.Stop
+    else if eqb (q .room) me then choice.Hold
+    else if canLend (owned r) (q .mode) then choice.Lend
+    else choice.Pass
+
+-- what was chosen for q is done on desk d, which it is off, and leaves desk e; again, whether another turn may follow
+unfoldable pub Carries : Desk → Choice → Queued → Desk → Bool → Type 0
+Carries d choice.Stop q e again = (e ≡ d) × (again ≡ false)
+Carries d choice.Hold q e again = Stays d e (hold (workOf d) (q .mode)) × (again ≡ true)
+Carries d choice.Lend q e again = Sends d e (lend (workOf d) (q .room) (q .mode)) × (again ≡ true)
+Carries d choice.Pass q e again = Sends d e (pass (workOf d) (q .room) (q .mode)) × (again ≡ false)

@@ -5,7 +5,7 @@ ghost use mathlib.Core.Bool.{_||_};
 ghost use Prim.Native.Nat.{_<_, _≤_};
 ghost use Rattle.rules.specs.Rules as rules;
 ghost use Rattle.rules.specs.Work as work;
-ghost use Rattle.act.specs.Desk.{placeLimit, outLimit, workOf, Stays, Joins, Sends, Ends, Ready, Turns};
+ghost use Rattle.act.specs.Desk.{placeLimit, outLimit, workOf, Stays, Joins, Sends, Ends, Ready, Turns, Carries, choiceOf};
 use crate::OUTBOX;
 use crate::PLACES;
 use room::Changed;
@@ -29,6 +29,14 @@ pub struct Desk {
 
 // A desk after one turn of serving, and whether another may follow.
 pub struct Turned(pub Desk, pub bool);
+
+// What a turn of serving does: it leaves the head of the queue there, the room itself holds the mode, it is lent, or the token goes.
+pub enum Choice {
+    Stop,
+    Hold,
+    Lend,
+    Pass,
+}
 
 // A message to room y, after those sent already.
 // Only for proved callers in this crate: a place is left for it.
@@ -177,6 +185,40 @@ fn upgraded(d: Desk) -> Desk
     hold(d, modes::W)
 }
 
+// What serving does with the head q of the queue, at room me.
+fn chosen(me: u8, room: Room, q: Queued) -> Choice
+    ensures { λ r. ⌜ r ≡ choiceOf me room q ⌝ }
+{
+    if upgrade_waits(room) {
+        return Choice::Stop;
+    }
+    let own = room.owned();
+    if !modes::agree(own, q.mode) {
+        return Choice::Stop;
+    }
+    if q.room == me {
+        return Choice::Hold;
+    }
+    if modes::can_lend(own, q.mode) {
+        return Choice::Lend;
+    }
+    Choice::Pass
+}
+
+// What was chosen for q, which is off the queue, and whether another turn may follow.
+// Only for turn, which is proved: a place is left for a message.
+fn carried_out(d: Desk, choice: Choice, q: Queued) -> Turned
+    requires { ⌜ d .sent < outLimit ⌝ }
+    ensures { λ r. ⌜ Carries d choice q (r .0) (r .1) ⌝ }
+{
+    match choice {
+        Choice::Stop => Turned(d, false),
+        Choice::Hold => Turned(hold(d, q.mode), true),
+        Choice::Lend => Turned(lend(d, q.room, q.mode), true),
+        Choice::Pass => Turned(pass(d, q.room, q.mode), false),
+    }
+}
+
 // One turn of serving: the head of the queue, if it can be taken off.
 fn turn(mut d: Desk) -> Turned
     requires { ⌜ Ready d ⌝ }
@@ -186,23 +228,14 @@ fn turn(mut d: Desk) -> Turned
     if at >= d.last {
         return Turned(d, false);
     }
-    let room = d.room;
-    if upgrade_waits(room) {
-        return Turned(d, false);
-    }
     let q = d.queue[at];
-    let own = room.owned();
-    if !modes::agree(own, q.mode) {
+    let room = d.room;
+    let choice = chosen(d.me, room, q);
+    if let Choice::Stop = choice {
         return Turned(d, false);
     }
     d.first = at + 1;
-    if q.room == d.me {
-        return Turned(hold(d, q.mode), true);
-    }
-    if modes::can_lend(own, q.mode) {
-        return Turned(lend(d, q.room, q.mode), true);
-    }
-    Turned(pass(d, q.room, q.mode), false)
+    carried_out(d, choice, q)
 }
 
 // With the token: a waiting upgrade, then the queue.
