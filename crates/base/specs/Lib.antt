@@ -5,3 +5,4 @@ pub mod Sums
 pub mod Lists
 pub mod Arrays
 pub mod Letters
+pub mod Folds
