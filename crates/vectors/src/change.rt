@@ -60,7 +60,7 @@ fn changed_room(mut r: Room, c: Command) -> Room {
 }
 
 // A room's record is changed.
-pub fn with_room(mut t: Table, c: Command) -> Table {
+fn with_room(mut t: Table, c: Command) -> Table {
     let at = c.a;
     if at < ROOMS {
         let r = t.rooms[at];
@@ -129,26 +129,43 @@ fn fresh(n: u8) -> Table {
     a.table
 }
 
-// A fresh table, or one with another queue, other messages or other sizes.
-pub fn changed(mut t: Table, c: Command) -> Table {
+// Other sizes: of the rooms, the queue or the messages.
+fn with_size(mut t: Table, word: u64, value: usize) -> Table {
+    match word {
+        words::ROOMS => {
+            t.n = byte(value);
+        }
+        words::QUEUED => {
+            t.queued = value;
+        }
+        words::COUNT => {
+            t.count = value;
+        }
+        _ => {}
+    }
+    t
+}
+
+// Whether a word changes a table.
+pub fn changes(word: u64) -> bool {
+    match word {
+        words::FRESH | words::FILL | words::JOIN | words::PLACE => true,
+        words::ROOMS | words::QUEUED | words::COUNT => true,
+        words::HELD | words::WANTED | words::TOKEN | words::TOWARD => true,
+        words::LENDER | words::CREDIT | words::LINK | words::COUNTER | words::ENTRY => true,
+        _ => false,
+    }
+}
+
+// A fresh table, or one with another queue, other messages, other sizes, or another record of a room.
+pub fn changed(t: Table, c: Command) -> Table {
     let word = c.word;
     match word {
         words::FRESH => fresh(byte(c.a)),
         words::FILL => with_reduces(t, c.a),
         words::JOIN => with_joined(t, byte(c.a), byte(c.b)),
         words::PLACE => with_place(t, c.a, byte(c.b), byte(c.c)),
-        words::ROOMS => {
-            t.n = byte(c.a);
-            t
-        }
-        words::QUEUED => {
-            t.queued = c.a;
-            t
-        }
-        words::COUNT => {
-            t.count = c.a;
-            t
-        }
-        _ => t,
+        words::ROOMS | words::QUEUED | words::COUNT => with_size(t, word, c.a),
+        _ => with_room(t, c),
     }
 }
