@@ -63,31 +63,37 @@ fn changed_room(mut r: Room, c: Command) -> Room {
 fn with_room(mut t: Table, c: Command) -> Table {
     let at = c.a;
     if at < ROOMS {
-        let r = t.rooms[at];
-        t.rooms[at] = changed_room(r, c);
+        let mut r = t.rooms[at];
+        r = changed_room(r, c);
+        t.rooms[at] = r;
     }
     t
 }
 
+// A place of the queue by its numbers.
+fn queued(room: usize, mode: usize) -> Queued {
+    Queued {
+        room: byte(room),
+        mode: byte(mode),
+    }
+}
+
 // Place i of the queue.
-fn with_place(mut t: Table, i: usize, room: u8, mode: u8) -> Table {
+fn with_place(mut t: Table, i: usize, q: Queued) -> Table {
     if i < QUEUE {
-        t.queue[i] = Queued {
-            room: room,
-            mode: mode,
-        };
+        t.queue[i] = q;
     }
     t
 }
 
 // A room joins the end of the queue.
-fn with_joined(t: Table, room: u8, mode: u8) -> Table {
+fn with_joined(mut t: Table, q: Queued) -> Table {
     let at = t.queued;
-    let mut u = with_place(t, at, room, mode);
+    t = with_place(t, at, q);
     if at < QUEUE {
-        u.queued = at + 1;
+        t.queued = at + 1;
     }
-    u
+    t
 }
 
 // Another message on wire i, or one more where there is no such wire.
@@ -106,26 +112,25 @@ pub fn with_message(mut t: Table, i: usize, w: Wire) -> Table {
 }
 
 // REDUCEs from room 1 to room 0 up to so many messages.
-fn with_reduces(t: Table, count: usize) -> Table {
+fn with_reduces(mut t: Table, count: usize) -> Table {
     let w = Wire {
         from: 1,
         to: 0,
         message: Message::Reduce { link: 7, mode: 0 },
     };
-    let mut u = t;
     let mut i = t.count;
     while i < WIRES {
         if i < count {
-            u = with_message(u, WIRES, w);
+            t = with_message(t, WIRES, w);
         }
         i += 1;
     }
-    u
+    t
 }
 
 // A fresh table of n rooms.
-fn fresh(n: u8) -> Table {
-    let a = table::fresh(n);
+fn fresh(n: usize) -> Table {
+    let a = table::fresh(byte(n));
     a.table
 }
 
@@ -161,10 +166,10 @@ pub fn changes(word: u64) -> bool {
 pub fn changed(t: Table, c: Command) -> Table {
     let word = c.word;
     match word {
-        words::FRESH => fresh(byte(c.a)),
+        words::FRESH => fresh(c.a),
         words::FILL => with_reduces(t, c.a),
-        words::JOIN => with_joined(t, byte(c.a), byte(c.b)),
-        words::PLACE => with_place(t, c.a, byte(c.b), byte(c.c)),
+        words::JOIN => with_joined(t, queued(c.a, c.b)),
+        words::PLACE => with_place(t, c.a, queued(c.b, c.c)),
         words::ROOMS | words::QUEUED | words::COUNT => with_size(t, word, c.a),
         _ => with_room(t, c),
     }

@@ -97,14 +97,19 @@ fn message(c: Command) -> Message {
     }
 }
 
-// A message is sent, or laid on the wire that was named.
-fn post(mut d: Desk, c: Command) -> Desk {
-    let w = Wire {
+// The wire of a command.
+fn wire(c: Command) -> Wire {
+    Wire {
         from: byte(c.a),
         to: byte(c.b),
         message: message(c),
-    };
-    let t = change::with_message(table_at(d, HAND), d.wire, w);
+    }
+}
+
+// A message is sent, or laid on the wire that was named.
+fn post(mut d: Desk, c: Command) -> Desk {
+    let mut t = table_at(d, HAND);
+    t = change::with_message(t, d.wire, wire(c));
     d.wire = WIRES;
     with_table(d, HAND, t)
 }
@@ -141,8 +146,9 @@ fn answer(t: Table, c: Command) -> Answer {
 
 // An event is tried. That a refused table comes back as it came is proved of the step, and not looked at here.
 fn try_event(mut d: Desk, c: Command) -> Desk {
-    let a = answer(table_at(d, HAND), c);
-    let t = a.table;
+    let mut t = table_at(d, HAND);
+    let a = answer(t, c);
+    t = a.table;
     d.number = a.number;
     with_table(d, HAND, t)
 }
@@ -153,7 +159,8 @@ fn change_it(mut d: Desk, c: Command) -> Desk {
         d.fault = true;
         return d;
     }
-    let t = change::changed(table_at(d, HAND), c);
+    let mut t = table_at(d, HAND);
+    t = change::changed(t, c);
     with_table(d, HAND, t)
 }
 

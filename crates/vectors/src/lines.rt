@@ -54,13 +54,13 @@ fn told(mut d: Desk, label: &[u8]) -> Desk {
 }
 
 // One line.
-fn take(d: Desk, line: &[u8]) -> Desk {
+fn take(mut d: Desk, line: &[u8]) -> Desk {
     let end = colon(line);
     if end >= line.len() {
         return d;
     }
-    let e = obey_all(d, line, end + 1);
-    told(e, &line[..end])
+    d = obey_all(d, line, end + 1);
+    told(d, &line[..end])
 }
 
 // All lines.
