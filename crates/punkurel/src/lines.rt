@@ -124,7 +124,7 @@ fn moved(out: &[u8], pen: Pen, n: usize) -> Pen
 }
 
 // The answers of all lines that are whole now, written out; the rest is kept.
-pub fn take(talk: Talk, chunk: &[u8], out: &mut [u8]) -> Talk
+pub fn take(mut talk: Talk, chunk: &[u8], out: &mut [u8]) -> Talk
     requires { ⌜ 64 ≤ length (now out) ⌝ }
 {
     let mut t = talk.table;
@@ -142,13 +142,10 @@ pub fn take(talk: Talk, chunk: &[u8], out: &mut [u8]) -> Talk
         from = next;
         end = bytes::scan::find(chunk, from, chunk.len(), b'\n');
     }
-    let rest = with(begun, &chunk[from..]);
-    let open = flushed(out, pen);
-    Talk {
-        table: t,
-        begun: rest,
-        open: open,
-    }
+    talk.table = t;
+    talk.begun = with(begun, &chunk[from..]);
+    talk.open = flushed(out, pen);
+    talk
 }
 
 // The input has ended: the last line is answered, where it lacks its feed.
