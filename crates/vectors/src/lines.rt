@@ -33,7 +33,7 @@ fn obey_all(mut d: Desk, line: &[u8], from: usize) -> Desk {
     desk::obey(d, c)
 }
 
-// The place of a line's colon; past its end where there is none, and for a remark.
+// The place of a line's colon; its length where there is none, and for a remark.
 fn colon(line: &[u8]) -> usize {
     let end = line.len();
     if end > 0 {
