@@ -16,7 +16,7 @@ pub struct Begun {
     pub length: usize,
 }
 
-// The table, the line that has begun, and whether there is more to read and somebody to answer.
+// The table, the line that has begun, and whether there is somebody to answer.
 pub struct Talk {
     pub table: Table,
     pub begun: Begun,
@@ -74,15 +74,19 @@ fn least(a: usize, b: usize) -> usize
     if a < b { a } else { b }
 }
 
+// The turn for a line that is whole as it has begun.
+fn turn_whole(t: Table, b: Begun, out: &mut [u8]) -> Turned {
+    let bytes = b.bytes;
+    let n = least(b.length, KEPT);
+    session::turn(t, &bytes[..n], out)
+}
+
 // The turn for a line whose last piece has come.
 fn turn(t: Table, b: Begun, piece: &[u8], out: &mut [u8]) -> Turned {
     if b.length == 0 {
         return session::turn(t, piece, out);
     }
-    let whole = with(b, piece);
-    let bytes = whole.bytes;
-    let n = least(whole.length, KEPT);
-    session::turn(t, &bytes[..n], out)
+    turn_whole(t, with(b, piece), out)
 }
 
 // Where the next answer goes, and whether all before it could be written.
@@ -120,7 +124,7 @@ fn moved(out: &[u8], pen: Pen, n: usize) -> Pen
 }
 
 // The answers of all lines that are whole now, written out; the rest is kept.
-pub fn take(talk: Talk, chunk: &[u8], out: &mut [u8]) -> Talk
+pub fn take(mut talk: Talk, chunk: &[u8], out: &mut [u8]) -> Talk
     requires { ⌜ 64 ≤ length (now out) ⌝ }
 {
     let mut t = talk.table;
@@ -138,28 +142,25 @@ pub fn take(talk: Talk, chunk: &[u8], out: &mut [u8]) -> Talk
         from = next;
         end = bytes::scan::find(chunk, from, chunk.len(), b'\n');
     }
-    let rest = with(begun, &chunk[from..]);
-    let open = flushed(out, pen);
-    Talk {
-        table: t,
-        begun: rest,
-        open: open,
-    }
+    talk.table = t;
+    talk.begun = with(begun, &chunk[from..]);
+    talk.open = flushed(out, pen);
+    talk
 }
 
 // The input has ended: the last line is answered, where it lacks its feed.
-pub fn end(talk: Talk, out: &mut [u8]) -> Talk
+pub fn end(talk: Talk, out: &mut [u8])
     requires { ⌜ 64 ≤ length (now out) ⌝ }
 {
-    let t = talk.table;
     let begun = talk.begun;
-    let mut rest = talk;
-    rest.open = false;
     if begun.length == 0 {
-        return rest;
+        return;
     }
-    let turned = turn(t, begun, &[], out);
-    let n = least(turned.length, LINE);
-    io::write_all(STDOUT_FILENO, &out[..n]);
-    rest
+    let t = talk.table;
+    let turned = turn_whole(t, begun, out);
+    let pen = Pen {
+        at: least(turned.length, LINE),
+        open: talk.open,
+    };
+    flushed(out, pen);
 }

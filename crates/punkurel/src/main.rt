@@ -5,18 +5,16 @@ ghost use lib.ListN.{length};
 mod lines; // lines.rt: bytes into lines, in whatever pieces they come
 
 use libc::STDIN_FILENO;
-use lines::Talk;
 
-// Reads once, answers the lines that are whole now, and says what there is to go on with.
-fn go_on(talk: Talk, input: &mut [u8], output: &mut [u8]) -> Talk
-    requires { ⌜ 64 ≤ length (now output) ⌝ }
+// Reads once, where there is somebody to answer, and says how many bytes came: none at the end of the input.
+fn more(open: bool, input: &mut [u8]) -> usize
+    ensures { λ r. ⌜ r ≤ length (now (input .entry)) ⌝ }
 {
-    let got = libc::read(STDIN_FILENO, input);
-    let n = io::count(got, input);
-    if n == 0 {
-        return lines::end(talk, output);
+    if !open {
+        return 0;
     }
-    lines::take(talk, &input[..n], output)
+    let got = libc::read(STDIN_FILENO, input);
+    io::count(got, input)
 }
 
 // A proved loop has to end, and nothing says that the input does: the turns are counted down from a number that no run uses up.
@@ -25,8 +23,11 @@ fn main() {
     let mut output = io::large_buffer();
     let mut talk = lines::start();
     let mut turns = u64::MAX;
-    while turns > 0 && talk.open {
-        talk = go_on(talk, &mut input, &mut output);
+    let mut n = more(true, &mut input);
+    while turns > 0 && n > 0 {
+        talk = lines::take(talk, &input[..n], &mut output);
+        n = more(talk.open, &mut input);
         turns -= 1;
     }
+    lines::end(talk, &mut output);
 }

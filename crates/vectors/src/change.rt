@@ -60,34 +60,40 @@ fn changed_room(mut r: Room, c: Command) -> Room {
 }
 
 // A room's record is changed.
-pub fn with_room(mut t: Table, c: Command) -> Table {
+fn with_room(mut t: Table, c: Command) -> Table {
     let at = c.a;
     if at < ROOMS {
-        let r = t.rooms[at];
-        t.rooms[at] = changed_room(r, c);
+        let mut r = t.rooms[at];
+        r = changed_room(r, c);
+        t.rooms[at] = r;
     }
     t
 }
 
+// A place of the queue by its numbers.
+fn queued(room: usize, mode: usize) -> Queued {
+    Queued {
+        room: byte(room),
+        mode: byte(mode),
+    }
+}
+
 // Place i of the queue.
-fn with_place(mut t: Table, i: usize, room: u8, mode: u8) -> Table {
+fn with_place(mut t: Table, i: usize, q: Queued) -> Table {
     if i < QUEUE {
-        t.queue[i] = Queued {
-            room: room,
-            mode: mode,
-        };
+        t.queue[i] = q;
     }
     t
 }
 
 // A room joins the end of the queue.
-fn with_joined(t: Table, room: u8, mode: u8) -> Table {
+fn with_joined(mut t: Table, q: Queued) -> Table {
     let at = t.queued;
-    let mut u = with_place(t, at, room, mode);
+    t = with_place(t, at, q);
     if at < QUEUE {
-        u.queued = at + 1;
+        t.queued = at + 1;
     }
-    u
+    t
 }
 
 // Another message on wire i, or one more where there is no such wire.
@@ -106,49 +112,65 @@ pub fn with_message(mut t: Table, i: usize, w: Wire) -> Table {
 }
 
 // REDUCEs from room 1 to room 0 up to so many messages.
-fn with_reduces(t: Table, count: usize) -> Table {
+fn with_reduces(mut t: Table, count: usize) -> Table {
     let w = Wire {
         from: 1,
         to: 0,
         message: Message::Reduce { link: 7, mode: 0 },
     };
-    let mut u = t;
     let mut i = t.count;
     while i < WIRES {
         if i < count {
-            u = with_message(u, WIRES, w);
+            t = with_message(t, WIRES, w);
         }
         i += 1;
     }
-    u
+    t
 }
 
 // A fresh table of n rooms.
-fn fresh(n: u8) -> Table {
-    let a = table::fresh(n);
+fn fresh(n: usize) -> Table {
+    let a = table::fresh(byte(n));
     a.table
 }
 
-// A fresh table, or one with another queue, other messages or other sizes.
-pub fn changed(mut t: Table, c: Command) -> Table {
-    let word = c.word;
+// Other sizes: of the rooms, the queue or the messages.
+fn with_size(mut t: Table, word: u64, value: usize) -> Table {
     match word {
-        words::FRESH => fresh(byte(c.a)),
-        words::FILL => with_reduces(t, c.a),
-        words::JOIN => with_joined(t, byte(c.a), byte(c.b)),
-        words::PLACE => with_place(t, c.a, byte(c.b), byte(c.c)),
         words::ROOMS => {
-            t.n = byte(c.a);
-            t
+            t.n = byte(value);
         }
         words::QUEUED => {
-            t.queued = c.a;
-            t
+            t.queued = value;
         }
         words::COUNT => {
-            t.count = c.a;
-            t
+            t.count = value;
         }
-        _ => t,
+        _ => {}
+    }
+    t
+}
+
+// Whether a word changes a table.
+pub fn changes(word: u64) -> bool {
+    match word {
+        words::FRESH | words::FILL | words::JOIN | words::PLACE => true,
+        words::ROOMS | words::QUEUED | words::COUNT => true,
+        words::HELD | words::WANTED | words::TOKEN | words::TOWARD => true,
+        words::LENDER | words::CREDIT | words::LINK | words::COUNTER | words::ENTRY => true,
+        _ => false,
+    }
+}
+
+// A fresh table, or one with another queue, other messages, other sizes, or another record of a room.
+pub fn changed(t: Table, c: Command) -> Table {
+    let word = c.word;
+    match word {
+        words::FRESH => fresh(c.a),
+        words::FILL => with_reduces(t, c.a),
+        words::JOIN => with_joined(t, queued(c.a, c.b)),
+        words::PLACE => with_place(t, c.a, queued(c.b, c.c)),
+        words::ROOMS | words::QUEUED | words::COUNT => with_size(t, word, c.a),
+        _ => with_room(t, c),
     }
 }

@@ -1,4 +1,5 @@
 // The table at hand, and what a command does to it.
+ghost use Prim.Native.Nat.{_<_};
 use crate::change;
 use crate::command::Command;
 use crate::command::byte;
@@ -11,14 +12,16 @@ use table::Table;
 use table::WIRES;
 use table::Wire;
 
-// The tables that can be kept.
-const KEPT: usize = 10;
+// The place of the table at hand, behind those of the tables that can be kept.
+const HAND: usize = 10;
+// The places of tables.
+const PLACES: usize = HAND + 1;
 
-// The table at hand and those kept; the wire that the next message is laid on, which is past the last one where it is sent;
-// the number last given back, and whether there was a word that is none.
+// The tables kept, and the one at hand behind them; the wire that the next message is laid on, which is past the last one where it
+// is sent; the number last given back, and whether there was a word that is none. That all tables are of one array makes the type
+// half as large, and the proofs of what has a desk with it.
 pub struct Desk {
-    pub table: Table,
-    pub kept: [Table; KEPT],
+    pub tables: [Table; PLACES],
     pub wire: usize,
     pub number: u8,
     pub fault: bool,
@@ -29,25 +32,42 @@ pub fn bare() -> Desk {
     let a = table::fresh(0);
     let t = a.table;
     Desk {
-        table: t,
-        kept: [t; KEPT],
+        tables: [t; PLACES],
         wire: WIRES,
         number: 0,
         fault: false,
     }
 }
 
-// The table at hand is kept at place k, or the one kept there is taken.
-fn keep_or_take(mut d: Desk, word: u64, k: usize) -> Desk {
-    let mut t = d.table;
-    if k < KEPT {
-        if word == words::KEEP {
-            d.kept[k] = t;
-        } else {
-            t = d.kept[k];
-            d.table = t;
-        }
-    }
+// A place of a table: the one at hand where there is no such place.
+fn place(k: usize) -> usize
+    ensures { λ r. ⌜ r < 11 ⌝ }
+{
+    if k < PLACES { k } else { HAND }
+}
+
+// The table at a place.
+fn table_at(d: Desk, k: usize) -> Table {
+    let at = place(k);
+    d.tables[at]
+}
+
+// The desk with another table at a place.
+fn with_table(mut d: Desk, k: usize, t: Table) -> Desk {
+    let at = place(k);
+    d.tables[at] = t;
+    d
+}
+
+// The table at one place is laid at another too.
+fn copied(d: Desk, from: usize, to: usize) -> Desk {
+    let t = table_at(d, from);
+    with_table(d, to, t)
+}
+
+// The next message is laid on wire i.
+fn at(mut d: Desk, i: usize) -> Desk {
+    d.wire = i;
     d
 }
 
@@ -77,17 +97,21 @@ fn message(c: Command) -> Message {
     }
 }
 
-// A message is sent, or laid on the wire that was named.
-fn post(mut d: Desk, c: Command) -> Desk {
-    let w = Wire {
+// The wire of a command.
+fn wire(c: Command) -> Wire {
+    Wire {
         from: byte(c.a),
         to: byte(c.b),
         message: message(c),
-    };
-    let t = d.table;
-    d.table = change::with_message(t, d.wire, w);
+    }
+}
+
+// A message is sent, or laid on the wire that was named.
+fn post(mut d: Desk, c: Command) -> Desk {
+    let mut t = table_at(d, HAND);
+    t = change::with_message(t, d.wire, wire(c));
     d.wire = WIRES;
-    d
+    with_table(d, HAND, t)
 }
 
 // An event by its numbers.
@@ -122,48 +146,26 @@ fn answer(t: Table, c: Command) -> Answer {
 
 // An event is tried. That a refused table comes back as it came is proved of the step, and not looked at here.
 fn try_event(mut d: Desk, c: Command) -> Desk {
-    let t = d.table;
+    let mut t = table_at(d, HAND);
     let a = answer(t, c);
-    let u = a.table;
-    d.table = u;
+    t = a.table;
     d.number = a.number;
-    d
+    with_table(d, HAND, t)
 }
 
 // The table at hand is changed by a command of neither the desk nor a message, or the word is none.
 fn change_it(mut d: Desk, c: Command) -> Desk {
-    let t = d.table;
-    let word = c.word;
-    match word {
-        words::HELD
-        | words::WANTED
-        | words::TOKEN
-        | words::TOWARD
-        | words::LENDER
-        | words::CREDIT
-        | words::LINK
-        | words::COUNTER
-        | words::ENTRY => {
-            d.table = change::with_room(t, c);
-        }
-        words::FRESH
-        | words::FILL
-        | words::JOIN
-        | words::PLACE
-        | words::ROOMS
-        | words::QUEUED
-        | words::COUNT => {
-            d.table = change::changed(t, c);
-        }
-        _ => {
-            d.fault = true;
-        }
+    if !change::changes(c.word) {
+        d.fault = true;
+        return d;
     }
-    d
+    let mut t = table_at(d, HAND);
+    t = change::changed(t, c);
+    with_table(d, HAND, t)
 }
 
 // A command is carried out.
-pub fn obey(mut d: Desk, c: Command) -> Desk {
+pub fn obey(d: Desk, c: Command) -> Desk {
     let word = c.word;
     match word {
         words::NEW
@@ -172,11 +174,9 @@ pub fn obey(mut d: Desk, c: Command) -> Desk {
         | words::HANDBACK
         | words::DELIVER
         | words::EVENT => try_event(d, c),
-        words::KEEP | words::TAKE => keep_or_take(d, word, c.a),
-        words::AT => {
-            d.wire = c.a;
-            d
-        }
+        words::KEEP => copied(d, HAND, c.a),
+        words::TAKE => copied(d, c.a, HAND),
+        words::AT => at(d, c.a),
         words::REQUEST | words::GRANT | words::PASS | words::REDUCE | words::NOTHING => post(d, c),
         _ => change_it(d, c),
     }

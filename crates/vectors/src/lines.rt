@@ -5,8 +5,9 @@ use crate::desk;
 use crate::desk::Desk;
 use bytes::scan::find;
 
-// The number that a line's last event gave back, and what went wrong.
-fn show(number: u8, fault: bool) {
+// A line's label, the number that its last event gave back, and what went wrong.
+fn show(label: &[u8], number: u8, fault: bool) {
+    io::write_all(1, label);
     io::write_all(1, b": ");
     io::print_decimal(1, number as u64);
     if fault {
@@ -16,40 +17,50 @@ fn show(number: u8, fault: bool) {
 }
 
 // The commands of a line, from a place on.
-fn obey_all(d: Desk, line: &[u8], from: usize) -> Desk {
-    let mut e = d;
+fn obey_all(mut d: Desk, line: &[u8], from: usize) -> Desk {
     let mut c = command::none();
     let mut i = from;
     while i < line.len() {
         let b = line[i];
         if b == b';' {
-            e = desk::obey(e, c);
+            d = desk::obey(d, c);
             c = command::none();
         } else {
             c = command::after(c, b);
         }
         i += 1;
     }
-    desk::obey(e, c)
+    desk::obey(d, c)
+}
+
+// The place of a line's colon; its length where there is none, and for a remark.
+fn colon(line: &[u8]) -> usize {
+    let end = line.len();
+    if end > 0 {
+        if line[0] == b'#' {
+            return end;
+        }
+    }
+    find(line, 0, end, b':')
+}
+
+// What a line gave is printed, where it has a label.
+fn told(mut d: Desk, label: &[u8]) -> Desk {
+    if label.len() > 0 {
+        show(label, d.number, d.fault);
+        d.fault = false;
+    }
+    d
 }
 
 // One line.
-fn take(d: Desk, line: &[u8]) -> Desk {
-    let end = line.len();
-    let colon = find(line, 0, end, b':');
-    if colon >= end {
+fn take(mut d: Desk, line: &[u8]) -> Desk {
+    let end = colon(line);
+    if end >= line.len() {
         return d;
     }
-    if line[0] == b'#' {
-        return d;
-    }
-    let mut e = obey_all(d, line, colon + 1);
-    if colon > 0 {
-        io::write_all(1, &line[..colon]);
-        show(e.number, e.fault);
-        e.fault = false;
-    }
-    e
+    d = obey_all(d, line, end + 1);
+    told(d, &line[..end])
 }
 
 // All lines.

@@ -7,11 +7,11 @@ use Rattle.punkurel.proofs.lines.take.Statement.{statement}
 use Rattle.punkurel.proofs.lines.take.Tie as tie
 
 abbrev Inv-loop : tie.InvT-loop
-Inv-loop chunk out₀ t₀ begun₀ pen₀ from₀ end₀ out t begun pen from end =
+Inv-loop talk chunk out₀ t₀ begun₀ pen₀ from₀ end₀ out t begun pen from end =
     (from ≤ end) × (end ≤ length chunk) × (pen .at + 64 ≤ length out) × (length out ≡ length out₀)
 
 abbrev μ-loop : tie.MeasureT-loop
-μ-loop chunk out₀ t₀ begun₀ pen₀ from₀ end₀ out t begun pen from end = length chunk - from
+μ-loop talk chunk out₀ t₀ begun₀ pen₀ from₀ end₀ out t begun pen from end = length chunk - from
 
 find-requires : tie.Need-find-requires Inv-loop μ-loop
 find-requires c κs = search needs

@@ -4,10 +4,10 @@ use Rattle.vectors.proofs.change.with_reduces.Statement.{statement}
 use Rattle.vectors.proofs.change.with_reduces.Tie as tie
 
 abbrev Inv-loop : tie.InvT-loop
-Inv-loop count w u₀ i₀ u i = i₀ ≤ i
+Inv-loop t₀ count w i₀ t i = i₀ ≤ i
 
 abbrev μ-loop : tie.MeasureT-loop
-μ-loop count w u₀ i₀ u i = 256 - i
+μ-loop t₀ count w i₀ t i = 256 - i
 
 loop-holds : tie.Need-loop-holds Inv-loop μ-loop
 loop-holds c = search needs

@@ -5,10 +5,10 @@ use Rattle.vectors.proofs.lines.obey_all.Statement.{statement}
 use Rattle.vectors.proofs.lines.obey_all.Tie as tie
 
 abbrev Inv-loop : tie.InvT-loop
-Inv-loop line from e₀ c₀ i₀ e c i = i₀ ≤ i
+Inv-loop d₀ line from c₀ i₀ d c i = i₀ ≤ i
 
 abbrev μ-loop : tie.MeasureT-loop
-μ-loop line from e₀ c₀ i₀ e c i = length line - i
+μ-loop d₀ line from c₀ i₀ d c i = length line - i
 
 none-requires : tie.Need-none-requires Inv-loop μ-loop
 none-requires c κs = search needs
