@@ -124,6 +124,7 @@ fn moved(out: &[u8], pen: Pen, n: usize) -> Pen
 }
 
 // The answers of all lines that are whole now, written out; the rest is kept.
+// Only for main, which is proved: out holds an answer at least.
 pub fn take(mut talk: Talk, chunk: &[u8], out: &mut [u8]) -> Talk
     requires { ⌜ 64 ≤ length (now out) ⌝ }
 {
@@ -149,6 +150,7 @@ pub fn take(mut talk: Talk, chunk: &[u8], out: &mut [u8]) -> Talk
 }
 
 // The input has ended: the last line is answered, where it lacks its feed.
+// Only for main, which is proved: out holds an answer at least.
 pub fn end(talk: Talk, out: &mut [u8])
     requires { ⌜ 64 ≤ length (now out) ⌝ }
 {

@@ -12,7 +12,7 @@ use Rattle.reading.specs.declared.Command.{Command}
 use Rattle.reading.specs.declared.Command.the-variants as command
 use Rattle.rules.specs.Events.{UPGRADE, HANDBACK}
 use Rattle.reading.specs.Lines.{noNumber, numberOf, modeOf, before, behind, freshCommand, ownCommand, askCommand, deliverCommand, order, commandOf}
-use Rattle.reading.proofs.Laws.{number-other, mode-other}
+use Rattle.reading.proofs.Words.{number-other, mode-other}
 
 -- text of more than two bytes is no number and no mode
 no-number : (xs : List ℕ) → 2 < length xs → numberOf xs ≡ noNumber

@@ -1,5 +1,5 @@
 use native.Mathlib.Omega.{arith}
-use Rattle.reading.proofs.Laws.{digit-low, digit-is, digit-high}
+use Rattle.reading.proofs.Words.{digit-low, digit-is, digit-high}
 use Rattle.reading.proofs.digit.Statement.{statement}
 use Rattle.reading.proofs.digit.Tie as tie
 

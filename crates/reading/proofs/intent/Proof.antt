@@ -1,5 +1,5 @@
 use native.Mathlib.Omega.{arith}
-use Rattle.reading.proofs.Laws.{intent-R, intent-W, intent-none}
+use Rattle.reading.proofs.Words.{intent-R, intent-W, intent-none}
 use borrow.Author.Needs.{needs}
 use Rattle.reading.proofs.intent.Statement.{statement}
 use Rattle.reading.proofs.intent.Tie as tie

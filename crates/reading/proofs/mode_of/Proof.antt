@@ -1,4 +1,4 @@
-use Rattle.reading.proofs.Laws.{mode-one, mode-other, mode-not, mode-two}
+use Rattle.reading.proofs.Words.{mode-one, mode-other, mode-not, mode-two}
 use borrow.Author.Needs.{needs}
 use Rattle.reading.proofs.mode_of.Statement.{statement}
 use Rattle.reading.proofs.mode_of.Tie as tie

@@ -1,5 +1,5 @@
 use native.Mathlib.Omega.{arith}
-use Rattle.reading.proofs.Laws.{digit-small, number-one, number-other, number-first, number-second, number-two}
+use Rattle.reading.proofs.Words.{digit-small, number-one, number-other, number-first, number-second, number-two}
 use borrow.Author.Needs.{needs}
 use Rattle.reading.proofs.number_of.Statement.{statement}
 use Rattle.reading.proofs.number_of.Tie as tie

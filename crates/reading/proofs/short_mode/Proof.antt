@@ -1,5 +1,5 @@
 use native.Mathlib.Omega.{arith}
-use Rattle.reading.proofs.Laws.{short-R, short-U, short-W, short-none}
+use Rattle.reading.proofs.Words.{short-R, short-U, short-W, short-none}
 use borrow.Author.Needs.{needs}
 use Rattle.reading.proofs.short_mode.Statement.{statement}
 use Rattle.reading.proofs.short_mode.Tie as tie
