@@ -7,3 +7,4 @@ pub mod Whole
 pub mod Names
 pub mod Search
 pub mod Accepted
+pub mod Wires

@@ -1,2 +1,3 @@
 pub mod Loans
+pub mod Links
 pub mod Arrivals

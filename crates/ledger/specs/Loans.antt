@@ -1,7 +1,9 @@
 -- A loan as its lender has it and as its borrower has it, once what is on the wires between them has arrived.
+use mathlib.Core.Path.{_≡_}
+use mathlib.Core.Logic.{_≢_}
 use mathlib.Core.Bool.{Bool, _&&_}
 use mathlib.Core.List.{List}
-use Prim.Native.Nat.{ℕ}
+use Prim.Native.Nat.{ℕ, _<_}
 use lib.Dec.{eqb}
 use Rattle.base.specs.Choice.{if_then_else_}
 use Rattle.base.specs.Folds.{folds}
@@ -31,7 +33,7 @@ owe e (msg.Token m rest l) = noEntry
 owe e (msg.Reduce l m) = e
 
 -- a message on the wire from x to y, or on another
-unfoldable pub arriving : (Entry → Message → Entry) → ℕ → ℕ → Entry → Wire → Entry
+unfoldable pub arriving : {A : Type 0} → (A → Message → A) → ℕ → ℕ → A → Wire → A
 arriving f x y e w = if between x y w then f e (w .message) else e
 
 -- p's entry for c once everything on the wire from c to p has arrived
@@ -45,3 +47,7 @@ debt r p = if eqb (r .lender) p then record { mode = r .credit; link = r .link }
 -- what c owes p once everything on the wire from p to c has arrived
 abbrev pub owed : (ℕ → Room) → List Wire → ℕ → ℕ → Entry
 owed rooms messages p c = folds (arriving owe p c) (debt (rooms c) p) messages
+
+-- LEDGER: lender and borrower have each loan alike
+abbrev pub Ledger : ℕ → (ℕ → Room) → List Wire → Type 0
+Ledger n rooms messages = (p c : ℕ) → p < n → c < n → p ≢ c → flushed rooms messages p c ≡ owed rooms messages p c
