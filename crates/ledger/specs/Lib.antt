@@ -1,3 +1,10 @@
 pub mod Loans
 pub mod Links
 pub mod Arrivals
+pub mod Frames
+pub mod Debts
+pub mod Lends
+pub mod Passes
+pub mod Takes
+pub mod Calm
+pub mod Reach
