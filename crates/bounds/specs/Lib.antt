@@ -1,1 +1,5 @@
 pub mod Bounds
+pub mod Weights
+pub mod Messages
+pub mod Counters
+pub mod Limits
