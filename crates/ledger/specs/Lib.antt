@@ -8,3 +8,6 @@ pub mod Passes
 pub mod Takes
 pub mod Calm
 pub mod Reach
+pub mod Numbers
+pub mod Received
+pub mod Senders
