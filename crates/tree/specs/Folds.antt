@@ -111,3 +111,121 @@ module _ (p c : ℕ) where
       go (inl q) = rw q here
       go (inr (inl g)) = inr (inl (grant-later x g))
       go (inr (inr (rest, t))) = inr (inr (rest, token-later x t))
+
+  -- a message that does not name c leaves what it owes
+  owe-unnamed : (e : Entry) (to : ℕ) (b : Message) → to ≡ c → isNamedIn c to b ≡ false → owe e b ≡ e
+  unfolding owe isNamedIn
+  owe-unnamed e to msg.Nothing at h = refl
+  owe-unnamed e to (msg.Request o m idle) at h = refl
+  owe-unnamed e to (msg.Grant m l) at h = clash (eq-eqb to c at) h
+  owe-unnamed e to (msg.Token m rest l) at h = clash (eq-eqb to c at) h
+  owe-unnamed e to (msg.Reduce l m) at h = refl
+
+  -- and so do messages of which none names it
+  owed-unnamed : (e : Entry) (messages : List Wire) → count (λ w. isNamedIn c (w .to) (w .message)) messages ≡ 0
+      → folds (arriving owe p c) e messages ≡ e
+  owed-unnamed e messages z = folds-still (arriving owe p c) e messages still
+    where
+      still : (x : Wire) → Mem x messages → arriving owe p c e x ≡ e
+      still x m =
+          split (between p c x)
+          (λ b. arriving-this owe p c x b e ∙ owe-unnamed e (x .to) (x .message) (ends p c x b .1) unnamed)
+          (λ b. arriving-other owe p c x b e)
+        where
+          unnamed : isNamedIn c (x .to) (x .message) ≡ false
+          unnamed =
+              split (isNamedIn c (x .to) (x .message))
+              (λ q. absurd (omega (arith, mem-total (λ w. one (isNamedIn c (w .to) (w .message))) m, ap one q)))
+              (λ q. q)
+
+  -- a GRANT under way is what is owed in the end, where at most one message names its receiver
+  pub owed-grant : (e : Entry) (messages : List Wire) (m l : ℕ) (w : Wire) → Mem w messages → w .«from» ≡ p → w .to ≡ c → w .message ≡ msg.Grant m l
+      → count (λ w. isNamedIn c (w .to) (w .message)) messages ≤ 1 → folds (arriving owe p c) e messages ≡ record { mode = m; link = l }
+  unfolding folds total owe isNamedIn
+  owed-grant e [] m l w member sender receiver is once = absurd (List·Memᴰ·not-nil member)
+  owed-grant e (x ∷ messages) m l w member sender receiver is once =
+      go (λ k. owed-grant (arriving owe p c e x) messages m l w k sender receiver is (omega arith)) (List·Memᴰ·cases-cons member)
+    where
+      named : w ≡ x → isNamedIn c (x .to) (x .message) ≡ true
+      named q = rw (← q, is) (eq-eqb (w .to) c receiver)
+
+      first : w ≡ x → arriving owe p c e x ≡ record { mode = m; link = l }
+      first q =
+          arriving-this owe p c x (rw (← q) (eq-eqb (w .«from») p sender also eq-eqb (w .to) c receiver)) e
+          ∙ ap (λ (b : Message). owe e b) (sym (ap (λ (v : Wire). v .message) q) ∙ is)
+
+      go : (Mem w messages → folds (arriving owe p c) (arriving owe p c e x) messages ≡ record { mode = m; link = l }) → (w ≡ x) ⊎ Mem w messages
+          → folds (arriving owe p c) (arriving owe p c e x) messages ≡ record { mode = m; link = l }
+      go r (inl q) =
+          ap (λ (f : Entry). folds (arriving owe p c) f messages) (first q)
+          ∙ owed-unnamed (record { mode = m; link = l }) messages (omega (arith, ap one (named q)))
+      go r (inr k) = r k
+
+-- What an entry becomes
+
+-- the mode of an entry made of a mode
+entry-mode : (m l : ℕ) → entryOf m l .mode ≡ m
+unfolding entryOf
+entry-mode m l =
+    by-test (λ (e : Entry). e .mode ≡ m) (eqb m 0) noEntry (record { mode = m; link = l }) (λ q. sym (eqb-true m 0 q)) (λ q. refl)
+
+-- none and IR are under all that is stronger
+weak-under : (m o : ℕ) → m ≤ IR → m < o → under m o ≡ true
+weak-under m o low h = go (same? m 0)
+  where
+    go : (m ≡ 0) ⊎ (m ≢ 0) → under m o ≡ true
+    go (inl q) = rw q (none-under o)
+    go (inr q) = let one : m ≡ IR = omega arith in rw one (IR-under o (omega arith))
+
+-- a message leaves an entry or lowers it, or is a TOKEN with the mode that it has now
+flush-by : (e : Entry) (b : Message) → ((l m : ℕ) → b ≡ msg.Reduce l m → m ≤ IR)
+    → (under (flush e b .mode) (e .mode) ≡ true) ⊎ ((m : ℕ) × (l : ℕ) × (b ≡ msg.Token m (flush e b .mode) l))
+unfolding flush
+flush-by e msg.Nothing low = inl (under-refl (e .mode))
+flush-by e (msg.Request o m idle) low = inl (under-refl (e .mode))
+flush-by e (msg.Grant m l) low = inl (under-refl (e .mode))
+flush-by e (msg.Token m rest l) low = inr (m, l, ap (λ (k : ℕ). msg.Token m k l) (sym (entry-mode rest l)))
+flush-by e (msg.Reduce l m) low =
+    inl
+    (by-test (λ (f : Entry). under (f .mode) (e .mode) ≡ true) (eqb (e .link) l && isStronger (e .mode) m) (entryOf m l) e
+    (λ q. rw (entry-mode m l)
+    (weak-under m (e .mode) (low l m refl) (stronger-true (e .mode) m (and-right (eqb (e .link) l) (isStronger (e .mode) m) q))))
+    (λ q. under-refl (e .mode)))
+
+-- an entry in the end: under the entry as it is, or under the remaining mode of a TOKEN on the wire
+pub flushed-by : (p c : ℕ) (e : Entry) (messages : List Wire)
+    → ((w : Wire) → Mem w messages → (l m : ℕ) → w .message ≡ msg.Reduce l m → m ≤ IR)
+    → (under (folds (arriving flush c p) e messages .mode) (e .mode) ≡ true)
+    ⊎ ((rest : ℕ) × TokenOn messages c p rest × (under (folds (arriving flush c p) e messages .mode) rest ≡ true))
+unfolding folds
+flushed-by p c e [] low = inl (under-refl (e .mode))
+flushed-by p c e (x ∷ messages) low = go here (flushed-by p c (arriving flush c p e x) messages (λ w m. low w (List·Memᴰ·tail m)))
+  where
+    Case : Entry → Type 0
+    Case f = (under (f .mode) (e .mode) ≡ true) ⊎ ((rest : ℕ) × TokenOn (x ∷ messages) c p rest × (under (f .mode) rest ≡ true))
+
+    here : Case (arriving flush c p e x)
+    here =
+        split (between c p x)
+        (λ b. rw (arriving-this flush c p x b e) (by (ends c p x b) (flush-by e (x .message) (low x (List·Memᴰ·head refl)))))
+        (λ b. inl (rw (arriving-other flush c p x b e) (under-refl (e .mode))))
+      where
+        by : (x .«from» ≡ c) × (x .to ≡ p)
+            → (under (flush e (x .message) .mode) (e .mode) ≡ true) ⊎ ((m : ℕ) × (l : ℕ) × (x .message ≡ msg.Token m (flush e (x .message) .mode) l))
+            → Case (flush e (x .message))
+        by at (inl u) = inl u
+        by at (inr (m, l, q)) =
+            inr
+            (flush e (x .message) .mode,
+            record { wire = x; member = List·Memᴰ·head refl; sender = at .0; receiver = at .1; mode = m; link = l; is = q },
+            under-refl (flush e (x .message) .mode))
+
+    last : Entry
+    last = folds (arriving flush c p) (arriving flush c p e x) messages
+
+    go : Case (arriving flush c p e x)
+        → (under (last .mode) (arriving flush c p e x .mode) ≡ true) ⊎ ((rest : ℕ) × TokenOn messages c p rest × (under (last .mode) rest ≡ true))
+        → Case last
+    go (inl u) (inl v) = inl (under-trans (last .mode) (arriving flush c p e x .mode) (e .mode) v u)
+    go (inr (rest, t, u)) (inl v) = inr (rest, t, under-trans (last .mode) (arriving flush c p e x .mode) rest v u)
+    go h (inr (rest, t, v)) = inr (rest, token-later x t, v)
