@@ -1,3 +1,5 @@
 pub mod Tree
 pub mod Owns
 pub mod Folds
+pub mod Root
+pub mod Dominance
