@@ -3,3 +3,4 @@ pub mod Owns
 pub mod Folds
 pub mod Root
 pub mod Dominance
+pub mod Agreement
