@@ -4,3 +4,5 @@ pub mod Folds
 pub mod Root
 pub mod Dominance
 pub mod Agreement
+pub mod Frames
+pub mod Ranks
