@@ -6,3 +6,5 @@ pub mod Dominance
 pub mod Agreement
 pub mod Frames
 pub mod Ranks
+pub mod Kept
+pub mod Children
