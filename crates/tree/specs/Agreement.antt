@@ -1,5 +1,5 @@
 -- Agreement: the modes that two rooms hold agree.
-use mathlib.Core.Path.{_≡_, refl, sym, _∙_, ap}
+use mathlib.Core.Path.{_≡_, sym, _∙_, ap}
 use mathlib.Core.Logic.{_⊎_, inl, inr, _≢_, ⊎-elim}
 use mathlib.Core.Bool.{true}
 use mathlib.Core.List.{List}
@@ -15,7 +15,6 @@ use Rattle.room.specs.Limits.{roomLimit}
 use Rattle.room.specs.Record.{entryAt}
 use Rattle.room.specs.Owned.{owned}
 use Rattle.table.specs.declared.Wire.{Wire}
-use Rattle.table.specs.declared.Message.{Message}
 use Rattle.table.specs.declared.Message.the-variants as msg
 use Rattle.table.specs.Formed.{isToken, tokens}
 use Rattle.facts.specs.Rooms.{RoomFacts}
@@ -25,7 +24,7 @@ use Rattle.owning.specs.Clauses.{Exact, Small, Pairs, Fits}
 use Rattle.tree.specs.Tree.{Tree}
 use Rattle.tree.specs.Owns.{part-entry, part-held, held-le, held-under}
 use Rattle.tree.specs.Folds.{TokenOn}
-use Rattle.tree.specs.Root.{Root, token-sole, rooted}
+use Rattle.tree.specs.Root.{token-sole, rooted}
 use Rattle.tree.specs.Dominance.{Pool, Dominated, dominance}
 
 -- what remains to the sender is the same in equal TOKENs
@@ -68,10 +67,11 @@ module _ (n : ℕ) (rooms : ℕ → Room) (messages : List Wire) (facts : (c : �
   pool-two m k (inl (i, h, e)) (inr (a, t)) = inr (ap (λ (z : ℕ). agrees z k) e ∙ agrees-sym _ k ∙ rest-entry k a t i h)
   pool-two m k (inr (a, t)) (inl (j, l, f)) = inr (ap (agrees m) f ∙ rest-entry m a t j l)
   pool-two m k (inr (a, t)) (inr (b, s)) =
-      inl
-      (rest-same (t .wire) (s .wire) (t .mode) m (t .link) (s .mode) k (s .link)
-      (token-sole n rooms messages sole (t .wire) (s .wire) (t .member) (s .member) (ap isToken (t .is)) (ap isToken (s .is))) (t .is) (s .is),
-      modes .rest (t .wire) (t .member) (t .mode) m (t .link) (t .is))
+      inl (
+        rest-same (t .wire) (s .wire) (t .mode) m (t .link) (s .mode) k (s .link)
+            (token-sole n rooms messages sole (t .wire) (s .wire) (t .member) (s .member) (ap isToken (t .is)) (ap isToken (s .is))) (t .is) (s .is),
+        modes .rest (t .wire) (t .member) (t .mode) m (t .link) (t .is),
+      )
 
   -- so what is under one agrees with what is under the other
   pool-under : (m k : ℕ) → Pool rooms messages r m → Pool rooms messages r k → (x y : ℕ) → under x m ≡ true → under y k ≡ true

@@ -1,7 +1,7 @@
 -- No children: a room that is not the root and owns nothing is lender of none but the root, and no GRANT of its is under way.
 use mathlib.Core.Path.{_≡_, refl, sym, _∙_, ap}
 use mathlib.Core.Logic.{_⊎_, inl, inr, _≢_, ⊎-elim}
-use mathlib.Core.Bool.{true, false, _||_}
+use mathlib.Core.Bool.{true, _||_}
 use mathlib.Core.List.{List}
 use Prim.Native.Nat.{ℕ, _≤_, _<_}
 use native.Mathlib.Omega.{arith}
@@ -17,7 +17,6 @@ use Rattle.room.specs.Limits.{roomLimit, nobody}
 use Rattle.room.specs.Record.{entryAt}
 use Rattle.room.specs.Owned.{owned}
 use Rattle.table.specs.declared.Wire.{Wire}
-use Rattle.table.specs.declared.Message.{Message}
 use Rattle.table.specs.declared.Message.the-variants as msg
 use Rattle.table.specs.Formed.{messageFine, isNamedIn}
 use Rattle.facts.specs.Rooms.{RoomFacts}
@@ -26,8 +25,7 @@ use Rattle.ledger.specs.Loans.{debt, owed, flushed, Ledger}
 use Rattle.owning.specs.Clauses.{Small}
 use Rattle.tree.specs.Tree.{NoTokenTo}
 use Rattle.tree.specs.Owns.{under-none, entry-le}
-use Rattle.tree.specs.Folds.{GrantOn, TokenOn, owed-by, owed-grant, flushed-by}
-use Rattle.tree.specs.Dominance.{token-told}
+use Rattle.tree.specs.Folds.{GrantOn, TokenOn, token-told, owed-by, owed-grant, flushed-by}
 
 -- a GRANT is of some mode
 grant-some : (n m l : ℕ) → messageFine n (msg.Grant m l) ≡ true → 1 ≤ m

@@ -1,14 +1,13 @@
 -- Dominance: every room but the root owns nothing, or a mode that is under an entry of the root or under what remains to a TOKEN's sender.
 use mathlib.Core.Path.{_≡_, refl, sym, _∙_, ap, subst}
 use mathlib.Core.Logic.{_⊎_, inl, inr, _≢_, ⊎-elim}
-use mathlib.Core.Bool.{true, false}
+use mathlib.Core.Bool.{true}
 use mathlib.Core.List.{List}
 use Prim.Native.Nat.{ℕ, zero, suc, _≤_, _<_}
 use native.Mathlib.Omega.{arith}
 use borrow.Author.Tests.{eq-eqb}
 use Rattle.base.specs.Sums.{same?}
 use Rattle.base.specs.Tests.{clash}
-use Rattle.base.specs.Lists.{Mem}
 use Rattle.modes.specs.Under.{under}
 use Rattle.modes.proofs.Laws.{under-refl, under-trans}
 use Rattle.room.specs.declared.Room.{Room}
@@ -17,15 +16,13 @@ use Rattle.room.specs.Limits.{roomLimit, nobody}
 use Rattle.room.specs.Record.{entryAt}
 use Rattle.room.specs.Owned.{owned}
 use Rattle.table.specs.declared.Wire.{Wire}
-use Rattle.table.specs.declared.Message.{Message}
-use Rattle.table.specs.declared.Message.the-variants as msg
 use Rattle.table.specs.Formed.{isToken, tokens}
 use Rattle.facts.specs.Rooms.{RoomFacts}
 use Rattle.ledger.specs.Loans.{debt, owed, flushed, Ledger}
 use Rattle.owning.specs.Clauses.{Exact, Small, Pairs, Fits}
-use Rattle.tree.specs.Tree.{NoTokenTo, Tree}
+use Rattle.tree.specs.Tree.{Tree}
 use Rattle.tree.specs.Owns.{under-none, entry-under}
-use Rattle.tree.specs.Folds.{GrantOn, TokenOn, owed-by, flushed-by}
+use Rattle.tree.specs.Folds.{GrantOn, TokenOn, token-told, owed-by, flushed-by}
 use Rattle.tree.specs.Root.{Root, holder-root, holder-quiet}
 
 -- a mode that the root answers for: of an entry, or what remains to the sender of a TOKEN under way to it
@@ -35,11 +32,6 @@ Pool rooms messages r m = ((j : ℕ) × (j < roomLimit) × (m ≡ entryAt (rooms
 -- what a room owns is none, or under a member of the pool
 abbrev pub Dominated : (ℕ → Room) → List Wire → ℕ → ℕ → Type 0
 Dominated rooms messages r c = (owned (rooms c) ≡ 0) ⊎ ((m : ℕ) × Pool rooms messages r m × (under (owned (rooms c)) m ≡ true))
-
--- a TOKEN on a wire is a TOKEN to its receiver
-pub token-told : {messages : List Wire} {a b rest : ℕ} → TokenOn messages a b rest → NoTokenTo b messages → ⊥
-unfolding isToken
-token-told t h = h (t .wire) (t .member) (ap isToken (t .is)) (t .receiver)
 
 -- what a room owes to its lender by its record
 debt-mode : (r : Room) → debt r (r .lender) .mode ≡ r .credit

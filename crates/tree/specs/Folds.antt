@@ -1,7 +1,7 @@
 -- What the wires do to a loan: what is owed is the debt, or a GRANT's loan, or nothing for a TOKEN; an entry only falls, or a TOKEN sets it.
 use mathlib.Core.Path.{_≡_, refl, sym, _∙_, ap}
 use mathlib.Core.Logic.{_⊎_, inl, inr, _≢_}
-use mathlib.Core.Bool.{Bool, true, false, _&&_, false≢true}
+use mathlib.Core.Bool.{true, false, _&&_}
 use mathlib.Core.List.{List, [], _∷_, List·Memᴰ·head, List·Memᴰ·tail, List·Memᴰ·cases-cons, List·Memᴰ·not-nil}
 use Prim.Native.Nat.{ℕ, _≤_, _<_}
 use native.Mathlib.Omega.{arith}
@@ -21,10 +21,11 @@ use Rattle.room.specs.Record.{noEntry, entryOf}
 use Rattle.table.specs.declared.Wire.{Wire}
 use Rattle.table.specs.declared.Message.{Message}
 use Rattle.table.specs.declared.Message.the-variants as msg
-use Rattle.table.specs.Formed.{isNamedIn}
+use Rattle.table.specs.Formed.{isToken, isNamedIn}
 use Rattle.table.specs.Oldest.{between}
 use Rattle.ledger.specs.Loans.{flush, owe, arriving}
 use Rattle.ledger.specs.Arrivals.{arriving-other, arriving-this}
+use Rattle.tree.specs.Tree.{NoTokenTo}
 
 -- a GRANT of this loan is on the wire from p to c
 pub record GrantOn (messages : List Wire) (p c : ℕ) (e : Entry) : Type 0 where
@@ -44,7 +45,12 @@ pub record TokenOn (messages : List Wire) (a b rest : ℕ) : Type 0 where
   pub link : ℕ
   pub is : wire .message ≡ msg.Token mode rest link
 
--- a message of another list is one of a longer list
+-- it is a TOKEN to its receiver
+pub token-told : {messages : List Wire} {a b rest : ℕ} → TokenOn messages a b rest → NoTokenTo b messages → ⊥
+unfolding isToken
+token-told t h = h (t .wire) (t .member) (ap isToken (t .is)) (t .receiver)
+
+-- what is on the wire is there in a longer list
 grant-later : {messages : List Wire} {p c : ℕ} {e : Entry} (x : Wire) → GrantOn messages p c e → GrantOn (x ∷ messages) p c e
 grant-later x g =
     record { wire = g .wire; member = List·Memᴰ·tail (g .member); sender = g .sender; receiver = g .receiver; is = g .is }
@@ -215,10 +221,11 @@ flushed-by p c e (x ∷ messages) low = go here (flushed-by p c (arriving flush 
             → Case (flush e (x .message))
         by at (inl u) = inl u
         by at (inr (m, l, q)) =
-            inr
-            (flush e (x .message) .mode,
-            record { wire = x; member = List·Memᴰ·head refl; sender = at .0; receiver = at .1; mode = m; link = l; is = q },
-            under-refl (flush e (x .message) .mode))
+            inr (
+              flush e (x .message) .mode,
+              record { wire = x; member = List·Memᴰ·head refl; sender = at .0; receiver = at .1; mode = m; link = l; is = q },
+              under-refl (flush e (x .message) .mode),
+            )
 
     last : Entry
     last = folds (arriving flush c p) (arriving flush c p e x) messages

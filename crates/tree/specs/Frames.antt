@@ -12,7 +12,6 @@ use Rattle.base.specs.Lists.{Mem, remove}
 use Rattle.room.specs.declared.Room.{Room}
 use Rattle.room.specs.Limits.{nobody}
 use Rattle.table.specs.declared.Wire.{Wire}
-use Rattle.table.specs.declared.Message.{Message}
 use Rattle.table.specs.declared.Message.the-variants as msg
 use Rattle.table.specs.Tables.{noWire}
 use Rattle.table.specs.Formed.{isToken}
@@ -27,11 +26,11 @@ GrantsIn after messages = (w : Wire) → Mem w after → (m l : ℕ) → w .mess
 abbrev pub NoGrant : List Wire → Type 0
 NoGrant messages = (w : Wire) → Mem w messages → (m l : ℕ) → w .message ≢ msg.Grant m l
 
--- one message is none
-pub single-none : (w : Wire) → ((m l : ℕ) → w .message ≢ msg.Grant m l) → NoGrant (w ∷ [])
+-- a single message that is none
+single-none : (w : Wire) → ((m l : ℕ) → w .message ≢ msg.Grant m l) → NoGrant (w ∷ [])
 single-none w h v member m l q = h m l (ap (λ (x : Wire). x .message) (sym (List·Memᴰ·eq-of-singleton member)) ∙ q)
 
--- neither a REDUCE nor a REQUEST is one
+-- a REDUCE, a REQUEST and a TOKEN are none
 pub reduce-none : (a b l m : ℕ) → NoGrant (wire a b (msg.Reduce l m) ∷ [])
 reduce-none a b l m = single-none (wire a b (msg.Reduce l m)) (λ k j e. differ k j e)
   where

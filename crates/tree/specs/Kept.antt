@@ -1,7 +1,7 @@
 -- TREE is kept by each change of a room's record with its messages.
 use mathlib.Core.Path.{_≡_, refl, sym, _∙_, ap}
 use mathlib.Core.Logic.{_⊎_, inl, inr, _≢_, ⊎-elim}
-use mathlib.Core.Bool.{Bool, true, _&&_, false≢true}
+use mathlib.Core.Bool.{Bool, _&&_, false≢true}
 use mathlib.Core.List.{List, [], _∷_, _++_, List·Memᴰ·head, Memᴰ·append-right}
 use Prim.Native.Nat.{ℕ, _<_}
 use native.Mathlib.Omega.{arith}
@@ -16,7 +16,6 @@ use Rattle.room.specs.Limits.{nobody}
 use Rattle.room.specs.Record.{entryOf, entryAt, withModes, withDebt, setEntry}
 use Rattle.room.specs.Rules.{nextLink, lentTo, left, remaining, passedTo, credited, tokenedBy, reduced}
 use Rattle.table.specs.declared.Wire.{Wire}
-use Rattle.table.specs.declared.Message.{Message}
 use Rattle.table.specs.declared.Message.the-variants as msg
 use Rattle.table.specs.Tables.{noWire}
 use Rattle.table.specs.Formed.{isToken}
@@ -124,9 +123,10 @@ module _ (n : ℕ) (old new : ℕ → Room) (messages : List Wire) (me : ℕ) (l
   unfolding passedTo left isToken
   pass-tree y m other here free none =
       tree-rerooted n old new messages (messages ++ (sent ∷ [])) t y
-      (λ c low some untold.
-      (λ e. untold sent (Memᴰ·append-right messages (List·Memᴰ·head refl)) refl (sym e),
-      at c some (untold-front c messages (sent ∷ []) untold) (same? c me)))
+      (λ c low some untold. (
+        λ e. untold sent (Memᴰ·append-right messages (List·Memᴰ·head refl)) refl (sym e),
+        at c some (untold-front c messages (sent ∷ []) untold) (same? c me),
+      ))
       (λ w member j l is.
       let before = grants-front messages (sent ∷ []) (token-none me y m (remaining (old me) y) (nextLink (old me .counter))) w member j l is in
       (none w before j l is, inr before))
@@ -177,9 +177,10 @@ module _ (n : ℕ) (old new : ℕ → Room) (messages : List Wire) (me : ℕ) (l
     unfolding tokenedBy
     token-tree m rest l is here =
         tree-less n old new messages (remove k messages ++ leavingSent me (old me) a) t
-        (λ c low some untold.
-        (lender-left (inl free) c some,
-        untold-taken c messages k _ is (λ q e. some (ap (λ (x : ℕ). new x .lender) (sym e) ∙ free)) (untold-front c (remove k messages) _ untold)))
+        (λ c low some untold. (
+          lender-left (inl free) c some,
+          untold-taken c messages k _ is (λ q e. some (ap (λ (x : ℕ). new x .lender) (sym e) ∙ free)) (untold-front c (remove k messages) _ untold),
+        ))
         (λ w member j i q. mem-remove k messages (grants-front (remove k messages) _ (leaving-none me (old me) a) w member j i q))
       where
         free : new me .lender ≡ nobody

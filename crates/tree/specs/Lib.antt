@@ -4,7 +4,7 @@ pub mod Folds
 pub mod Root
 pub mod Dominance
 pub mod Agreement
+pub mod Children
 pub mod Frames
 pub mod Ranks
 pub mod Kept
-pub mod Children

@@ -6,7 +6,7 @@ use Prim.Native.Nat.{ℕ, zero, suc, _≤_, _<_}
 use native.Mathlib.Omega.{arith}
 use borrow.Author.Tests.{ltb-true, lt-ltb}
 use Rattle.base.specs.Choice.{by-test}
-use Rattle.base.specs.Sums.{same?, below?}
+use Rattle.base.specs.Sums.{same?}
 use Rattle.base.specs.Tests.{clash}
 use Rattle.modes.specs.Codes.{none, W}
 use Rattle.modes.specs.Modes.{isStronger}

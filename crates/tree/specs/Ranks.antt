@@ -1,8 +1,8 @@
 -- Two ways to rank anew: a room becomes the lowest of all, or a room without children is put above another.
-use mathlib.Core.Path.{_≡_, refl, sym, _∙_, ap}
-use mathlib.Core.Logic.{_⊎_, inl, inr, _≢_, ⊎-elim}
+use mathlib.Core.Path.{_≡_, refl, _∙_, ap}
+use mathlib.Core.Logic.{_⊎_, inl, inr, _≢_}
 use mathlib.Core.List.{List}
-use Prim.Native.Nat.{ℕ, suc, _≤_, _<_}
+use Prim.Native.Nat.{ℕ, suc, _<_}
 use native.Mathlib.Omega.{arith}
 use lib.Dec.{eqb}
 use borrow.Author.Tests.{eq-eqb, ne-eqb}
@@ -41,7 +41,7 @@ module _ (rank : ℕ → ℕ) (r : ℕ) where
       go (inr e) = omega (arith, rerooted-other b e, rerooted-other c ne)
 
 -- y gets one more than b
-unfoldable pub attached : (ℕ → ℕ) → ℕ → ℕ → ℕ → ℕ
+attached : (ℕ → ℕ) → ℕ → ℕ → ℕ → ℕ
 attached rank y b c = if eqb c y then suc (rank b) else rank c
 
 module _ (rank : ℕ → ℕ) (y b : ℕ) where
@@ -54,11 +54,11 @@ module _ (rank : ℕ → ℕ) (y b : ℕ) where
   attached-other c ne = simp (ne-eqb c y ne)
 
   -- y is above b
-  pub attached-new : b ≢ y → attached rank y b b < attached rank y b y
+  attached-new : b ≢ y → attached rank y b b < attached rank y b y
   attached-new ne = omega (arith, attached-at, attached-other b ne)
 
   -- the others are as they were
-  pub attached-falls : (p c : ℕ) → p ≢ y → c ≢ y → rank p < rank c → attached rank y b p < attached rank y b c
+  attached-falls : (p c : ℕ) → p ≢ y → c ≢ y → rank p < rank c → attached rank y b p < attached rank y b c
   attached-falls p c pn cn h = omega (arith, attached-other p pn, attached-other c cn)
 
 -- Ranks of rooms and messages that have changed

@@ -1,13 +1,13 @@
 -- The root: the room that has the token or to which it is under way. There is one, since there is one token.
 use mathlib.Core.Path.{_≡_, refl, sym, _∙_, ap}
-use mathlib.Core.Logic.{_⊎_, inl, inr, _≢_, ⊎-elim}
+use mathlib.Core.Logic.{_⊎_, inl, inr, _≢_}
 use mathlib.Core.Bool.{Bool, true, false}
 use mathlib.Core.List.{List, [], _∷_, List·Memᴰ·head, List·Memᴰ·tail, List·Memᴰ·cases-cons, List·Memᴰ·not-nil}
-use Prim.Native.Nat.{ℕ, zero, suc, _+_, _≤_, _<_}
+use Prim.Native.Nat.{ℕ, zero, suc, _≤_, _<_}
 use native.Mathlib.Omega.{arith}
 use Rattle.base.specs.Choice.{split}
 use Rattle.base.specs.Tests.{clash}
-use Rattle.base.specs.Sums.{one, one-le, sum, sum-at, sum-two, countBelow, below?}
+use Rattle.base.specs.Sums.{one, sum, sum-at, sum-two, countBelow, below?}
 use Rattle.base.specs.Lists.{Mem, total, count, mem-total}
 use Rattle.room.specs.declared.Room.{Room}
 use Rattle.table.specs.declared.Wire.{Wire}
