@@ -117,11 +117,11 @@ module _ (n : ℕ) (old new : ℕ → Room) (messages : List Wire) (me : ℕ) (l
       by w j l is (inr e) = inl (ap (λ (x : Wire). x .«from») e, ap (λ (x : Wire). x .to) e)
 
   -- PASS to y, to which no GRANT is under way: y becomes the lowest, and is excused until the TOKEN has arrived
-  pub pass-tree : (y m : ℕ) → y ≢ me → new me ≡ passedTo (old me) y → old me .lender ≡ nobody
+  pub pass-tree : (y m : ℕ) → new me ≡ passedTo (old me) y → old me .lender ≡ nobody
       → ((w : Wire) → Mem w messages → (j l : ℕ) → w .message ≡ msg.Grant j l → w .to ≢ y)
       → Tree n new (messages ++ (wire me y (msg.Token m (remaining (old me) y) (nextLink (old me .counter))) ∷ []))
   unfolding passedTo left isToken
-  pass-tree y m other here free none =
+  pass-tree y m here free none =
       tree-rerooted n old new messages (messages ++ (sent ∷ [])) t y
       (λ c low some untold. (
         λ e. untold sent (Memᴰ·append-right messages (List·Memᴰ·head refl)) refl (sym e),
@@ -155,7 +155,9 @@ module _ (n : ℕ) (old new : ℕ → Room) (messages : List Wire) (me : ℕ) (l
     grant-tree m l inside is here =
         record {
           rank = t .rank;
-          lender = λ c low some untold. at c low some (untold-taken c messages k _ is (λ q. absurd (false≢true q)) (untold-front c (remove k messages) _ untold)) (same? c me);
+          lender =
+              λ c low some untold.
+              at c low some (untold-taken c messages k _ is (λ q. absurd (false≢true q)) (untold-front c (remove k messages) _ untold)) (same? c me);
           grant =
               λ w member j i q.
               t .grant w (mem-remove k messages (grants-front (remove k messages) _ (leaving-none me (old me) a) w member j i q)) j i q;
