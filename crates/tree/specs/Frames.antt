@@ -1,0 +1,89 @@
+-- Messages that come and go without a TOKEN or a GRANT: what was said of all TOKENs and GRANTs stays.
+use mathlib.Core.Path.{_≡_, sym, _∙_, ap}
+use mathlib.Core.Logic.{_⊎_, inl, inr, _≢_, ⊎-elim}
+use mathlib.Core.Bool.{Bool, true, _||_}
+use mathlib.Core.List.{List, [], _∷_, _++_, List·Memᴰ·head, List·Memᴰ·tail, List·Memᴰ·cases-cons, List·Memᴰ·not-nil, List·Memᴰ·append-cases, List·Memᴰ·eq-of-singleton, Memᴰ·append-left}
+use Prim.Native.Nat.{ℕ, zero, suc}
+use native.Mathlib.Omega.{arith}
+use lib.Dec.{eqb}
+use lib.ListN.{getD}
+use Rattle.base.specs.Choice.{by-test}
+use Rattle.base.specs.Lists.{Mem, remove}
+use Rattle.room.specs.declared.Room.{Room}
+use Rattle.room.specs.Limits.{nobody}
+use Rattle.table.specs.declared.Wire.{Wire}
+use Rattle.table.specs.declared.Message.the-variants as msg
+use Rattle.table.specs.Tables.{noWire}
+use Rattle.table.specs.Formed.{isToken}
+use Rattle.facts.specs.Wires.{wire, leavingSent}
+use Rattle.tree.specs.Tree.{NoTokenTo}
+
+-- every GRANT of a list is one of another
+abbrev pub GrantsIn : List Wire → List Wire → Type 0
+GrantsIn after messages = (w : Wire) → Mem w after → (m l : ℕ) → w .message ≡ msg.Grant m l → Mem w messages
+
+-- there is no GRANT in a list
+abbrev pub NoGrant : List Wire → Type 0
+NoGrant messages = (w : Wire) → Mem w messages → (m l : ℕ) → w .message ≢ msg.Grant m l
+
+-- a single message that is none
+single-none : (w : Wire) → ((m l : ℕ) → w .message ≢ msg.Grant m l) → NoGrant (w ∷ [])
+single-none w h v member m l q = h m l (ap (λ (x : Wire). x .message) (sym (List·Memᴰ·eq-of-singleton member)) ∙ q)
+
+-- a REDUCE, a REQUEST and a TOKEN are none
+pub reduce-none : (a b l m : ℕ) → NoGrant (wire a b (msg.Reduce l m) ∷ [])
+reduce-none a b l m = single-none (wire a b (msg.Reduce l m)) (λ k j e. differ k j e)
+  where
+    differ : (k j : ℕ) → msg.Reduce l m ≡ msg.Grant k j → ⊥
+    differ k j e = let z : _≡_ {A = ℕ} 0 1 = cc in omega arith
+
+pub request-none : (a b o m : ℕ) (idle : Bool) → NoGrant (wire a b (msg.Request o m idle) ∷ [])
+request-none a b o m idle = single-none (wire a b (msg.Request o m idle)) (λ k j e. differ k j e)
+  where
+    differ : (k j : ℕ) → msg.Request o m idle ≡ msg.Grant k j → ⊥
+    differ k j e = let z : _≡_ {A = ℕ} 0 1 = cc in omega arith
+
+pub token-none : (a b m rest l : ℕ) → NoGrant (wire a b (msg.Token m rest l) ∷ [])
+token-none a b m rest l = single-none (wire a b (msg.Token m rest l)) (λ k j e. differ k j e)
+  where
+    differ : (k j : ℕ) → msg.Token m rest l ≡ msg.Grant k j → ⊥
+    differ k j e = let z : _≡_ {A = ℕ} 0 1 = cc in omega arith
+
+-- what is sent to an old lender is a REDUCE or nothing
+pub leaving-none : (me : ℕ) (r : Room) (a : ℕ) → NoGrant (leavingSent me r a)
+unfolding leavingSent
+leaving-none me r a =
+    by-test NoGrant (eqb (r .lender) nobody || eqb (r .lender) a) [] (wire me (r .lender) (msg.Reduce (r .link) 0) ∷ [])
+    (λ q w member. absurd (List·Memᴰ·not-nil member))
+    (λ q. reduce-none me (r .lender) (r .link) 0)
+
+-- with such a list behind it the GRANTs are those of before
+pub grants-front : (messages more : List Wire) → NoGrant more → GrantsIn (messages ++ more) messages
+grants-front messages more h w member m l q =
+    ⊎-elim (λ k. k) (λ k. absurd (h w k m l q)) (List·Memᴰ·append-cases messages member)
+
+-- no TOKEN to c in the longer list: none in the shorter
+pub untold-front : (c : ℕ) (messages more : List Wire) → NoTokenTo c (messages ++ more) → NoTokenTo c messages
+untold-front c messages more h w member = h w (Memᴰ·append-left more member)
+
+-- a member stays, but for the one that is taken off
+mem-kept : {A : Type 0} (k : ℕ) (l : List A) (d a : A) → Mem a l → Mem a (remove k l) ⊎ (a ≡ getD l k d)
+unfolding remove
+mem-kept k [] d a m = absurd (List·Memᴰ·not-nil m)
+mem-kept zero (x ∷ l) d a m = ⊎-elim (λ e. inr e) (λ i. inl i) (List·Memᴰ·cases-cons m)
+mem-kept {A} (suc k) (x ∷ l) d a m = go (mem-kept k l d a) (List·Memᴰ·cases-cons m)
+  where
+    go : (Mem a l → Mem a (remove k l) ⊎ (a ≡ getD l k d)) → (a ≡ x) ⊎ Mem a l → Mem a (x ∷ remove k l) ⊎ (a ≡ getD l k d)
+    go r (inl e) = inl (List·Memᴰ·head e)
+    go r (inr i) = ⊎-elim (λ j. inl (List·Memᴰ·tail j)) (λ e. inr e) (r i)
+
+-- the same where the message taken off was no TOKEN to c
+pub untold-taken : (c : ℕ) (messages : List Wire) (k : ℕ) (v : Wire) → getD messages k noWire ≡ v → (isToken (v .message) ≡ true → v .to ≢ c)
+    → NoTokenTo c (remove k messages) → NoTokenTo c messages
+untold-taken c messages k v is not h w member q = go (mem-kept k messages noWire w member)
+  where
+    go : Mem w (remove k messages) ⊎ (w ≡ getD messages k noWire) → w .to ≢ c
+    go (inl i) = h w i q
+    go (inr e) =
+        let same : w ≡ v = e ∙ is in
+        λ t. not (ap (λ (x : Wire). isToken (x .message)) (sym same) ∙ q) (ap (λ (x : Wire). x .to) (sym same) ∙ t)

@@ -1,0 +1,119 @@
+-- The root: the room that has the token or to which it is under way. There is one, since there is one token.
+use mathlib.Core.Path.{_≡_, refl, sym, _∙_, ap}
+use mathlib.Core.Logic.{_⊎_, inl, inr, _≢_}
+use mathlib.Core.Bool.{Bool, true, false}
+use mathlib.Core.List.{List, [], _∷_, List·Memᴰ·head, List·Memᴰ·tail, List·Memᴰ·cases-cons, List·Memᴰ·not-nil}
+use Prim.Native.Nat.{ℕ, zero, suc, _≤_, _<_}
+use native.Mathlib.Omega.{arith}
+use Rattle.base.specs.Choice.{split}
+use Rattle.base.specs.Tests.{clash}
+use Rattle.base.specs.Sums.{one, sum, sum-at, sum-two, countBelow, below?}
+use Rattle.base.specs.Lists.{Mem, total, count, mem-total}
+use Rattle.room.specs.declared.Room.{Room}
+use Rattle.table.specs.declared.Wire.{Wire}
+use Rattle.table.specs.Formed.{isToken, tokens}
+use Rattle.tree.specs.Tree.{NoTokenTo}
+
+-- no other room has the token, and to none it is under way
+pub record Root (n : ℕ) (rooms : ℕ → Room) (messages : List Wire) (r : ℕ) : Type 0 where
+  pub tokenless : (c : ℕ) → c < n → c ≢ r → rooms c .token ≡ false
+  pub untold : (c : ℕ) → c < n → c ≢ r → NoTokenTo c messages
+
+-- a test that some number below n passes, and a test that some element passes
+count-found : (n : ℕ) (p : ℕ → Bool) → 1 ≤ countBelow n p → (i : ℕ) × (i < n) × (p i ≡ true)
+unfolding sum
+count-found zero p h = absurd (omega arith)
+count-found (suc n) p h =
+    split (p n)
+    (λ q. (n, omega arith, q))
+    (λ q. let f = count-found n p (omega (arith, ap one q)) in (f .0, omega (arith, f .1), f .2))
+
+list-found : {A : Type 0} (p : A → Bool) (l : List A) → 1 ≤ count p l → (a : A) × Mem a l × (p a ≡ true)
+unfolding total
+list-found p [] h = absurd (omega arith)
+list-found p (x ∷ l) h =
+    split (p x)
+    (λ q. (x, List·Memᴰ·head refl, q))
+    (λ q. let f = list-found p l (omega (arith, ap one q)) in (f .0, List·Memᴰ·tail (f .1), f .2))
+
+-- where at most one element passes a test two that pass it are the same
+list-sole : {A : Type 0} (p : A → Bool) (l : List A) → count p l ≤ 1 → (a b : A) → Mem a l → Mem b l → p a ≡ true → p b ≡ true → a ≡ b
+unfolding total
+list-sole p [] h a b m k s t = absurd (List·Memᴰ·not-nil m)
+list-sole {A} p (x ∷ l) h a b m k s t = go (List·Memᴰ·cases-cons m) (List·Memᴰ·cases-cons k) (λ i j. list-sole p l (omega arith) a b i j s t)
+  where
+    only : (c : A) → p c ≡ true → Mem c l → (d : A) → p d ≡ true → d ≡ x → a ≡ b
+    only c u i d v e = absurd (omega (arith, mem-total (λ y. one (p y)) i, ap one u, ap one v, ap (λ (y : A). one (p y)) e))
+
+    go : (a ≡ x) ⊎ Mem a l → (b ≡ x) ⊎ Mem b l → (Mem a l → Mem b l → a ≡ b) → a ≡ b
+    go (inl d) (inl e) r = d ∙ sym e
+    go (inl d) (inr j) r = only b t j a s d
+    go (inr i) (inl e) r = only a s i b t e
+    go (inr i) (inr j) r = r i j
+
+module _ (n : ℕ) (rooms : ℕ → Room) (messages : List Wire) (sole : tokens n rooms messages ≤ 1) where
+  -- there is no second TOKEN
+  pub token-sole : (w v : Wire) → Mem w messages → Mem v messages → isToken (w .message) ≡ true → isToken (v .message) ≡ true → w ≡ v
+  unfolding tokens
+  token-sole w v m k s t = list-sole (λ w. isToken (w .message)) messages (omega arith) w v m k s t
+
+  module _ (r : ℕ) (low : r < n) (with : rooms r .token ≡ true) where
+    -- while a room has the token none is under way,
+    pub holder-quiet : (w : Wire) → Mem w messages → isToken (w .message) ≡ false
+    unfolding tokens
+    holder-quiet w m =
+        split (isToken (w .message))
+        (λ q. absurd (omega (
+          arith,
+          mem-total (λ w. one (isToken (w .message))) m,
+          ap one q,
+          sum-at n (λ c. one (rooms c .token)) r low,
+          ap one with,
+        )))
+        (λ q. q)
+
+    -- and that room is the root
+    pub holder-root : Root n rooms messages r
+    unfolding tokens
+    holder-root =
+        record {
+          tokenless =
+              λ c h ne.
+              split (rooms c .token)
+              (λ q. absurd (omega (arith, sum-two n (λ c. one (rooms c .token)) c r h low ne, ap one q, ap one with)))
+              (λ q. q);
+          untold = λ c h ne w m q. clash q (holder-quiet w m);
+        }
+
+  -- while the token is under way its receiver is the root
+  pub receiver-root : (w : Wire) → Mem w messages → isToken (w .message) ≡ true → Root n rooms messages (w .to)
+  unfolding tokens
+  receiver-root w m is =
+      record {
+        tokenless =
+            λ c h ne.
+            split (rooms c .token)
+            (λ q. absurd (omega (
+              arith,
+              mem-total (λ w. one (isToken (w .message))) m,
+              ap one is,
+              sum-at n (λ c. one (rooms c .token)) c h,
+              ap one q,
+            )))
+            (λ q. q);
+        untold = λ c h ne v k q e. ne (sym e ∙ ap (λ (w : Wire). w .to) (token-sole v w k m q is));
+      }
+
+-- there is a root
+pub rooted : (n : ℕ) (rooms : ℕ → Room) (messages : List Wire) → tokens n rooms messages ≡ 1 → ((w : Wire) → Mem w messages → w .to < n)
+    → (r : ℕ) × (r < n) × Root n rooms messages r
+unfolding tokens
+rooted n rooms messages sole low = go (below? 0 (countBelow n (λ c. rooms c .token)))
+  where
+    go : (0 < countBelow n (λ c. rooms c .token)) ⊎ (countBelow n (λ c. rooms c .token) ≤ 0) → (r : ℕ) × (r < n) × Root n rooms messages r
+    go (inl h) =
+        let f = count-found n (λ c. rooms c .token) (omega arith) in
+        (f .0, f .1, holder-root n rooms messages (omega arith) (f .0) (f .1) (f .2))
+    go (inr h) =
+        let f = list-found (λ w. isToken (w .message)) messages (omega arith) in
+        (f .0 .to, low (f .0) (f .1), receiver-root n rooms messages (omega arith) (f .0) (f .1) (f .2))
