@@ -11,3 +11,4 @@ pub mod Reach
 pub mod Numbers
 pub mod Received
 pub mod Senders
+pub mod Leaving
