@@ -5,3 +5,6 @@ pub mod Changes
 pub mod Falls
 pub mod Messages
 pub mod Small
+pub mod Covered
+pub mod Pairs
+pub mod PairsKept

@@ -10,7 +10,7 @@ use borrow.Author.Tests.{eq-eqb}
 use Rattle.base.specs.Choice.{by-test, split}
 use Rattle.base.specs.Tests.{clash}
 use Rattle.base.specs.Sums.{one}
-use Rattle.base.specs.Lists.{Mem, remove, mem-snoc, mem-remove, mem-total}
+use Rattle.base.specs.Lists.{Mem, mem-snoc, mem-total}
 use Rattle.room.specs.declared.Room.{Room}
 use Rattle.room.specs.Limits.{nobody}
 use Rattle.table.specs.declared.Wire.{Wire}
@@ -38,9 +38,8 @@ leaving-member me r a w =
     (λ e h. absurd (List·Memᴰ·not-nil h))
     (λ e h. List·Memᴰ·eq-of-singleton h)
 
-pub leaving-among : (k : ℕ) (messages : List Wire) (me : ℕ) (r : Room) (a : ℕ) → Among (remove k messages ++ leavingSent me r a) messages (leavingWire me r)
-leaving-among k messages me r a w h =
-    ⊎-elim (λ m. inl (mem-remove k messages m)) (λ m. inr (leaving-member me r a w m)) (List·Memᴰ·append-cases (remove k messages) h)
+pub leaving-among : (messages : List Wire) (me : ℕ) (r : Room) (a : ℕ) → Among (messages ++ leavingSent me r a) messages (leavingWire me r)
+leaving-among messages me r a w h = ⊎-elim (λ m. inl m) (λ m. inr (leaving-member me r a w m)) (List·Memᴰ·append-cases messages h)
 
 -- the kinds of messages: two messages of different kinds are not equal
 abbrev pub kind : Message → ℕ

@@ -78,6 +78,14 @@ module _ (n : ℕ) (rooms : ℕ → Room) (messages : List Wire) (s : Small n ro
       small-among n rooms messages _ (wire a b (msg.Request o m idle)) (sent-among messages (wire a b (msg.Request o m idle)))
       (λ m rest l e. absurd (omega (arith, ap kind e))) (λ l m e. absurd (omega (arith, ap kind e))) s
 
+  -- the REDUCE to an old lender is to none
+  small-leaving : (me : ℕ) (r : Room) (a : ℕ) → Small n rooms (messages ++ leavingSent me r a)
+  small-leaving me r a =
+      small-among n rooms messages _ (leavingWire me r) (leaving-among messages me r a)
+      (λ m rest l e. absurd (omega (arith, ap kind e)))
+      (λ l m e. let k : _≡_ {A = ℕ} 0 m = cc in omega arith)
+      s
+
 module _ (n : ℕ) (old new : ℕ → Room) (messages : List Wire) (me : ℕ) (low : me < n) (others : (c : ℕ) → c ≢ me → new c ≡ old c)
     (s : Small n old messages) where
   -- the entries of the room that acts
@@ -108,10 +116,7 @@ module _ (n : ℕ) (old new : ℕ → Room) (messages : List Wire) (me : ℕ) (l
   -- a GRANT arrives
   pub small-grant : (k a m l : ℕ) → new me ≡ withDebt (withModes (old me) m 0) a m l → Small n new (remove k messages ++ leavingSent me (old me) a)
   small-grant k a m l here =
-      small-among n new messages _ (leavingWire me (old me)) (leaving-among k messages me (old me) a)
-      (λ m rest l e. absurd (omega (arith, ap kind e)))
-      (λ l m e. let k : _≡_ {A = ℕ} 0 m = cc in omega arith)
-      (small-room (rw here entries))
+      small-leaving n new (remove k messages) (small-taken n new messages (small-room (rw here entries)) k) me (old me) a
 
   module _ (fits : n ≤ roomLimit) (long : length (old me .entries) ≡ roomLimit) (y : ℕ) (near : y < n) where
     -- "lend": what is lent is small
@@ -159,10 +164,7 @@ module _ (n : ℕ) (old new : ℕ → Room) (messages : List Wire) (me : ℕ) (l
     pub small-token : (k m rest l : ℕ) → k < length messages → getD messages k noWire ≡ wire y me (msg.Token m rest l)
         → new me ≡ tokenedBy (old me) me y m rest l → Small n new (remove k messages ++ leavingSent me (old me) y)
     small-token k m rest l place found here =
-        small-among n new messages _ (leavingWire me (old me)) (leaving-among k messages me (old me) y)
-        (λ m rest l e. absurd (omega (arith, ap kind e)))
-        (λ l m e. let k : _≡_ {A = ℕ} 0 m = cc in omega arith)
-        (small-room (rw here whole))
+        small-leaving n new (remove k messages) (small-taken n new messages (small-room (rw here whole)) k) me (old me) y
       where
         weak : small rest ≡ true
         weak = s .rest (getD messages k noWire) (mem-at messages k noWire place) m rest l (rw found refl)
