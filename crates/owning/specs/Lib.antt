@@ -8,3 +8,4 @@ pub mod Small
 pub mod Covered
 pub mod Pairs
 pub mod PairsKept
+pub mod Exact
