@@ -13,7 +13,7 @@ use Rattle.base.specs.Sums.{same?, below?}
 use Rattle.modes.specs.Codes.{none, IR, U, IW, W}
 use Rattle.modes.specs.Modes.{isStronger, canLend}
 use Rattle.modes.specs.Under.{under, small}
-use Rattle.modes.proofs.Laws.{stronger-true, stronger-false, none-under, low-small, under-small-falls}
+use Rattle.modes.proofs.Laws.{stronger-true, stronger-false, low-small, under-small-falls}
 use Rattle.room.specs.declared.Room.{Room}
 use Rattle.room.specs.Limits.{roomLimit, nobody}
 use Rattle.room.specs.Record.{entryOf, entryAt, withModes, withDebt, setEntry}
@@ -23,8 +23,9 @@ use Rattle.facts.specs.Rooms.{RoomFacts}
 use Rattle.owning.specs.Parts.{part}
 use Rattle.owning.specs.Clauses.{Exact, Agreeing}
 use Rattle.owning.specs.Owned.{part-entry, part-held, owned-any}
-use Rattle.owning.specs.Changes.{alters-falls, same-owned, modes-alters, wanted-same, granted-alters, credited-same, lent-alters, passed-owned, reduced-falls}
-use Rattle.owning.specs.Falls.{falls-owned, loan-owned, loan-same, grant-owned}
+use Rattle.owning.specs.Changes.{same-owned, modes-alters, wanted-same, granted-alters, credited-same, passed-owned}
+use Rattle.owning.specs.Falls.{loan-same, grant-owned}
+use Rattle.owning.specs.Weaker.{Weaker, hand-back-weaker, lent-weaker, reduced-weaker}
 use Rattle.owning.specs.Small.{SmallEntries}
 
 -- EXACT but for room x, which has not settled yet: what it owns is under what it owes, and that is small
@@ -137,7 +138,7 @@ module _ (n : ℕ) (old new : ℕ → Room) (me : ℕ) (low : me < n) (others : 
 
     -- without the token what is owned falls, and settling is due
     module _ (facts : RoomFacts n me (old me)) (without : old me .token ≡ false) (agreeing : Agreeing (old me)) (entries : SmallEntries (old me)) where
-      falls : new me .credit ≡ old me .credit → under (owned (new me)) (owned (old me)) ≡ true → ExactBut me n new
+      falls : new me .credit ≡ old me .credit → Weaker (old me) (new me) → ExactBut me n new
       falls c u =
           record {
             others = λ d h ne t. rw (others d ne) (x d h (ap (λ (r : Room). r .token) (sym (others d ne)) ∙ t));
@@ -148,21 +149,20 @@ module _ (n : ℕ) (old new : ℕ → Room) (me : ℕ) (low : me < n) (others : 
       pub but-hand-back : (v : ℕ) → new me ≡ withModes (old me) none v → ExactBut me n new
       but-hand-back v here =
           falls (ap (λ (r : Room). r .credit) here)
-          (rw here (falls-owned (old me) (withModes (old me) none v) agreeing
-          (alters-falls (old me) (withModes (old me) none v) roomLimit none (modes-alters (old me) none v) (none-under (part (old me) roomLimit)))))
+          (rw here (hand-back-weaker (old me) agreeing v))
 
       module _ (long : length (old me .entries) ≡ roomLimit) (y : ℕ) (near : y < roomLimit) where
         pub but-lend : (m : ℕ) → canLend (owned (old me)) m ≡ true → new me ≡ lentTo (old me) y m → ExactBut me n new
         unfolding lentTo
         but-lend m can here =
             falls (ap (λ (r : Room). r .credit) here)
-            (rw here (loan-owned (old me) (lentTo (old me) y m) agreeing y m (lent-alters (old me) y long near m) can))
+            (rw here (lent-weaker (old me) agreeing y long near m can))
 
         pub but-reduce : (l m : ℕ) → m ≤ IR → new me ≡ reduced (old me) y l m → ExactBut me n new
         unfolding reduced
         but-reduce l m weak here =
             falls (ap (λ (r : Room). r .credit) here ∙ owes)
-            (rw here (falls-owned (old me) (reduced (old me) y l m) agreeing (reduced-falls (old me) y long near l m weak)))
+            (rw here (reduced-weaker (old me) agreeing y long near l m weak))
           where
             owes : reduced (old me) y l m .credit ≡ old me .credit
             owes =

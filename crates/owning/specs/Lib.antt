@@ -3,9 +3,12 @@ pub mod Clauses
 pub mod Owned
 pub mod Changes
 pub mod Falls
+pub mod Weaker
 pub mod Messages
-pub mod Small
 pub mod Covered
+pub mod Small
 pub mod Pairs
 pub mod PairsKept
 pub mod Exact
+pub mod Fits
+pub mod Idle

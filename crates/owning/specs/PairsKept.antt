@@ -11,7 +11,7 @@ use Rattle.base.specs.Lists.{remove, mem-at}
 use Rattle.modes.specs.Codes.{none, IR}
 use Rattle.modes.specs.Modes.{agrees, canLend}
 use Rattle.modes.specs.Under.{under, small}
-use Rattle.modes.proofs.Laws.{agrees-sym, agrees-none, none-under, under-refl, under-trans, agrees-under, low-small, not-lent-low, under-small-agree}
+use Rattle.modes.proofs.Laws.{agrees-sym, agrees-none, under-refl, under-trans, agrees-under, low-small, not-lent-low, under-small-agree}
 use Rattle.room.specs.declared.Room.{Room}
 use Rattle.room.specs.Limits.{roomLimit}
 use Rattle.room.specs.Record.{entryOf, withModes, withDebt, setEntry}
@@ -24,8 +24,9 @@ use Rattle.facts.specs.Wires.{wire, leavingSent}
 use Rattle.owning.specs.Parts.{part}
 use Rattle.owning.specs.Clauses.{Agreeing, Pairs}
 use Rattle.owning.specs.Owned.{part-under, entries-none}
-use Rattle.owning.specs.Changes.{Falls, Alters, alters-falls, same-falls, modes-alters, wanted-same, granted-alters, credited-same, lent-alters, passed-alters, passed-owned, reduced-falls, tokened-entry, tokened-held}
-use Rattle.owning.specs.Falls.{falls-owned, alters-agreeing}
+use Rattle.owning.specs.Changes.{Falls, Alters, same-falls, modes-alters, wanted-same, granted-alters, credited-same, lent-alters, passed-owned, reduced-falls, tokened-entry, tokened-held}
+use Rattle.owning.specs.Falls.{alters-agreeing}
+use Rattle.owning.specs.Weaker.{hand-back-falls, passed-falls, passed-weaker}
 use Rattle.owning.specs.Messages.{kind, Unnamed}
 use Rattle.owning.specs.Covered.{Covered, covered-under}
 use Rattle.owning.specs.Pairs.{TokenFits, token-fits, pairs-taken, pairs-sent, pairs-leaving, pairs-falls, pairs-loan, pairs-unnamed}
@@ -40,7 +41,7 @@ module _ (n : ℕ) (old new : ℕ → Room) (messages : List Wire) (me : ℕ) (l
   pub pairs-hand-back : (v : ℕ) → new me ≡ withModes (old me) none v → Pairs n new messages
   pairs-hand-back v here =
       pairs-falls n old new messages me low others p
-      (rw here (alters-falls (old me) (withModes (old me) none v) roomLimit none (modes-alters (old me) none v) (none-under (part (old me) roomLimit))))
+      (rw here (hand-back-falls (old me) v))
 
   -- it wants another mode
   pub pairs-want : (v : ℕ) → new me ≡ withModes (old me) (old me .held) v → Pairs n new messages
@@ -95,8 +96,7 @@ module _ (n : ℕ) (old new : ℕ → Room) (messages : List Wire) (me : ℕ) (l
         (wire me y (msg.Token m (remaining (old me) y) l)) token
       where
         falls : Falls (old me) (passedTo (old me) y)
-        falls =
-            alters-falls (old me) (passedTo (old me) y) y none (passed-alters (old me) y long (omega arith)) (none-under (part (old me) y))
+        falls = passed-falls (old me) y long (omega arith)
 
         agreeing : Agreeing (old me)
         agreeing = p .room me low
@@ -105,7 +105,7 @@ module _ (n : ℕ) (old new : ℕ → Room) (messages : List Wire) (me : ℕ) (l
         weak = low-small (owned (old me)) (not-lent-low (owned (old me)) m some agree cannot)
 
         rest-under : under (remaining (old me) y) (owned (old me)) ≡ true
-        rest-under = rw (← passed-owned (old me) y long (omega arith)) (falls-owned (old me) (passedTo (old me) y) agreeing falls)
+        rest-under = rw (← passed-owned (old me) y long (omega arith)) (passed-weaker (old me) agreeing y long (omega arith))
 
         -- every mode of y is under what the room owns
         theirs-under : (i : ℕ) → i ≤ roomLimit → under (part (old y) i) (owned (old me)) ≡ true

@@ -11,7 +11,7 @@ use Rattle.base.specs.Lists.{remove, mem-at, mem-remove}
 use Rattle.modes.specs.Codes.{none, IR, R}
 use Rattle.modes.specs.Modes.{agrees, canLend}
 use Rattle.modes.specs.Under.{under, small}
-use Rattle.modes.proofs.Laws.{none-under, lends-small, low-small, not-lent-low, under-small-falls}
+use Rattle.modes.proofs.Laws.{lends-small, low-small, not-lent-low, under-small-falls}
 use Rattle.room.specs.declared.Room.{Room}
 use Rattle.room.specs.Limits.{roomLimit}
 use Rattle.room.specs.Record.{entryOf, entryAt, withModes, withDebt, setEntry}
@@ -24,7 +24,8 @@ use Rattle.facts.specs.Wires.{wire, leavingSent}
 use Rattle.owning.specs.Parts.{part}
 use Rattle.owning.specs.Clauses.{Small}
 use Rattle.owning.specs.Owned.{part-entry, part-owned, owned-any}
-use Rattle.owning.specs.Changes.{Falls, Alters, alters-falls, same-falls, credited-same, lent-alters, passed-alters, passed-owned, reduced-falls, tokened-entry, tokened-held}
+use Rattle.owning.specs.Changes.{Falls, Alters, same-falls, credited-same, lent-alters, passed-alters, passed-owned, reduced-falls, tokened-entry, tokened-held}
+use Rattle.owning.specs.Weaker.{passed-falls}
 use Rattle.owning.specs.Messages.{Among, sent-among, leaving-among, leavingWire, kind}
 
 -- the entries of a record are small
@@ -140,7 +141,7 @@ module _ (n : ℕ) (old new : ℕ → Room) (messages : List Wire) (me : ℕ) (l
         alters = passed-alters (old me) y long (omega arith)
 
         falls : Falls (old me) (passedTo (old me) y)
-        falls = alters-falls (old me) (passedTo (old me) y) y none alters (none-under (part (old me) y))
+        falls = passed-falls (old me) y long (omega arith)
 
         weak : remaining (old me) y ≤ R
         weak = rw (← passed-owned (old me) y long (omega arith)) (owned-any (passedTo (old me) y) (λ (m : ℕ). m ≤ R) (λ i h. go i h (same? i y)))
