@@ -12,3 +12,6 @@ pub mod PairsKept
 pub mod Exact
 pub mod Fits
 pub mod Idle
+pub mod Blocked
+pub mod Served
+pub mod Light
