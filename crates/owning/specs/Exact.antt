@@ -18,15 +18,14 @@ use Rattle.room.specs.declared.Room.{Room}
 use Rattle.room.specs.Limits.{roomLimit, nobody}
 use Rattle.room.specs.Record.{entryOf, entryAt, withModes, withDebt, setEntry}
 use Rattle.room.specs.Owned.{owned}
-use Rattle.room.specs.Rules.{nextLink, lentTo, left, remaining, passedTo, credited, reduced}
+use Rattle.room.specs.Rules.{nextLink, lentTo, left, remaining, passedTo, credited, tokenedBy, reduced}
 use Rattle.facts.specs.Rooms.{RoomFacts}
-use Rattle.owning.specs.Parts.{part}
 use Rattle.owning.specs.Clauses.{Exact, Agreeing}
-use Rattle.owning.specs.Owned.{part-entry, part-held, owned-any}
+use Rattle.owning.specs.Owned.{part-held}
 use Rattle.owning.specs.Changes.{same-owned, modes-alters, wanted-same, granted-alters, credited-same, passed-owned}
 use Rattle.owning.specs.Falls.{loan-same, grant-owned}
 use Rattle.owning.specs.Weaker.{Weaker, hand-back-weaker, lent-weaker, reduced-weaker}
-use Rattle.owning.specs.Small.{SmallEntries}
+use Rattle.owning.specs.Small.{SmallEntries, owned-small}
 
 -- EXACT but for room x, which has not settled yet: what it owns is under what it owes, and that is small
 pub record ExactBut (x n : ℕ) (rooms : ℕ → Room) : Type 0 where
@@ -35,22 +34,18 @@ pub record ExactBut (x n : ℕ) (rooms : ℕ → Room) : Type 0 where
   pub weak : small (rooms x .credit) ≡ true
 
 -- a room without the token holds neither U nor W, so it owns a small mode
-pub owned-small : (n c : ℕ) (r : Room) → RoomFacts n c r → r .token ≡ false → SmallEntries r → small (owned r) ≡ true
+pub owned-weak : (n c : ℕ) (r : Room) → RoomFacts n c r → r .token ≡ false → SmallEntries r → small (owned r) ≡ true
 unfolding small
-owned-small n c r f without entries = owned-any r (λ (m : ℕ). small m ≡ true) (λ i h. go i h (below? i roomLimit))
+owned-weak n c r f without entries = owned-small r entries (held (below? (r .held) U))
   where
+    other : (m : ℕ) → (r .held ≡ m → r .token ≡ true) → r .held ≢ m
+    other m g e = clash (g e) without
+
     held : (r .held < U) ⊎ (U ≤ r .held) → small (r .held) ≡ true
     held (inl h) = low-small (r .held) (omega arith)
     held (inr h) =
         let k : r .held ≡ IW = omega (arith, f .held-code, other U (f .U-token), other W (f .W-token)) in
         rw k refl
-      where
-        other : (m : ℕ) → (r .held ≡ m → r .token ≡ true) → r .held ≢ m
-        other m g e = clash (g e) without
-
-    go : (i : ℕ) → i ≤ roomLimit → (i < roomLimit) ⊎ (roomLimit ≤ i) → small (part r i) ≡ true
-    go i h (inl l) = rw (part-entry r i l) (entries i l)
-    go i h (inr l) = let k : i ≡ roomLimit = omega arith in rw (k, part-held r) (held (below? (r .held) U))
 
 -- where what is owned is not weaker than what is owed there is nothing to settle
 pub exact-still : (x n : ℕ) (rooms : ℕ → Room) → ExactBut x n rooms → isStronger (rooms x .credit) (owned (rooms x)) ≡ false → Exact n rooms
@@ -98,6 +93,11 @@ module _ (n : ℕ) (old new : ℕ → Room) (me : ℕ) (low : me < n) (others : 
     pub exact-token : new me .token ≡ true → Exact n new
     exact-token t = room (λ f. clash t f)
 
+    -- a TOKEN arrives
+    pub exact-arrived : (a m rest l : ℕ) → new me ≡ tokenedBy (old me) me a m rest l → Exact n new
+    unfolding tokenedBy
+    exact-arrived a m rest l here = exact-token (ap (λ (r : Room). r .token) here)
+
     -- it owes and owns as before
     pub exact-same : new me .token ≡ old me .token → new me .credit ≡ old me .credit → owned (new me) ≡ owned (old me) → Exact n new
     exact-same t c o = room (λ f. c ∙ x me low (sym t ∙ f) ∙ sym o)
@@ -143,7 +143,7 @@ module _ (n : ℕ) (old new : ℕ → Room) (me : ℕ) (low : me < n) (others : 
           record {
             others = λ d h ne t. rw (others d ne) (x d h (ap (λ (r : Room). r .token) (sym (others d ne)) ∙ t));
             owes = subst⁻¹ (λ (m : ℕ). under (owned (new me)) m ≡ true) (c ∙ x me low without) u;
-            weak = subst⁻¹ (λ (m : ℕ). small m ≡ true) (c ∙ x me low without) (owned-small n me (old me) facts without entries);
+            weak = subst⁻¹ (λ (m : ℕ). small m ≡ true) (c ∙ x me low without) (owned-weak n me (old me) facts without entries);
           }
 
       pub but-hand-back : (v : ℕ) → new me ≡ withModes (old me) none v → ExactBut me n new

@@ -12,19 +12,16 @@ use Rattle.modes.specs.Modes.{agrees, canLend}
 use Rattle.modes.specs.Under.{small}
 use Rattle.modes.proofs.Laws.{low-small, small-lends-IR, under-small-falls}
 use Rattle.room.specs.declared.Room.{Room}
-use Rattle.room.specs.Limits.{roomLimit}
 use Rattle.room.specs.Record.{withModes}
 use Rattle.room.specs.Owned.{owned}
 use Rattle.table.specs.declared.Queued.{Queued}
 use Rattle.rules.specs.Rules.{isEmpty}
 use Rattle.facts.specs.Rooms.{RoomFacts}
-use Rattle.owning.specs.Parts.{part}
 use Rattle.owning.specs.Clauses.{Blocked, Light}
-use Rattle.owning.specs.Owned.{part-entry, part-held, owned-any}
 use Rattle.owning.specs.Changes.{same-owned, wanted-same}
 use Rattle.owning.specs.Falls.{under-small-le}
 use Rattle.owning.specs.Weaker.{Weaker}
-use Rattle.owning.specs.Small.{SmallEntries}
+use Rattle.owning.specs.Small.{SmallEntries, owned-small}
 use Rattle.owning.specs.Blocked.{blocked-same, blocked-not, blocked-join, blocked-ask}
 
 -- a room that waits for IR owns none or IR, or is blocked
@@ -34,6 +31,11 @@ LightAt r queue = r .wanted ≡ IR → (owned r ≤ IR) ⊎ ((r .token ≡ true)
 -- what is under none or IR is none or IR
 still-light : (r s : Room) → Weaker r s → owned r ≤ IR → owned s ≤ IR
 still-light r s u h = omega (arith, under-small-le (owned s) (owned r) (low-small (owned r) (omega arith)) u)
+
+-- without the token it owns none or IR
+pub light-away : (n : ℕ) (rooms : ℕ → Room) (queue : List Queued) → Light n rooms queue → (c : ℕ) → c < n → rooms c .token ≡ false
+    → rooms c .wanted ≡ IR → owned (rooms c) ≤ IR
+light-away n rooms queue s c h without e = ⊎-elim (λ k. k) (λ k. clash (k .0) without) (s c h e)
 
 -- another room joins the queue
 pub light-join : (n : ℕ) (rooms : ℕ → Room) (queue : List Queued) (q : Queued) → Light n rooms queue → Light n rooms (queue ++ (q ∷ []))
@@ -58,7 +60,7 @@ module _ (n : ℕ) (old new : ℕ → Room) (queue : List Queued) (me : ℕ) (lo
   pub light-weaker : old me .token ≡ false → new me .wanted ≡ old me .wanted → Weaker (old me) (new me) → Light n new queue
   light-weaker without waits u =
       room λ e.
-      inl (still-light (old me) (new me) u (⊎-elim (λ k. k) (λ k. clash (k .0) without) (s me low (sym waits ∙ e))))
+      inl (still-light (old me) (new me) u (light-away n old queue s me low without (sym waits ∙ e)))
 
   -- ASK without the token: what is owned cannot lend IR, so it is none
   pub light-request : (m : ℕ) → small (owned (old me)) ≡ true → canLend (owned (old me)) m ≡ false
@@ -86,13 +88,7 @@ module _ (n : ℕ) (old new : ℕ → Room) (queue : List Queued) (me : ℕ) (lo
       free e (inr k) = absurd (omega (arith, facts .upgrade k (λ z. omega arith) .1))
 
       weak : old me .wanted ≡ IR → small (owned (old me)) ≡ true
-      weak e = owned-any (old me) (λ (m : ℕ). small m ≡ true) (λ i h. each i h (below? i roomLimit))
-        where
-          each : (i : ℕ) → i ≤ roomLimit → (i < roomLimit) ⊎ (roomLimit ≤ i) → small (part (old me) i) ≡ true
-          each i h (inl l) = rw (part-entry (old me) i l) (entries i l)
-          each i h (inr l) =
-              let k : i ≡ roomLimit = omega arith in
-              rw (k, part-held (old me), free e (same? (old me .held) none)) (low-small none (omega arith))
+      weak e = owned-small (old me) entries (rw (free e (same? (old me .held) none)) (low-small none (omega arith)))
 
       go : old me .wanted ≡ IR → (old me .token ≡ true) × Blocked (old me) queue → (owned (new me) ≡ owned (old me)) ⊎ (owned (new me) ≢ owned (old me))
           → (owned (new me) ≤ IR) ⊎ ((new me .token ≡ true) × Blocked (new me) queue)
@@ -106,7 +102,7 @@ module _ (n : ℕ) (old new : ℕ → Room) (queue : List Queued) (me : ℕ) (lo
       where
         go : (c ≡ me) ⊎ (c ≢ me) → LightAt (new c) rest
         go (inl e) = rw e f
-        go (inr e) = rw (others c e) (λ w. ⊎-elim (λ k. inl k) (λ k. clash (k .0) (alone c h e)) (s c h w))
+        go (inr e) = rw (others c e) (λ w. inl (light-away n old queue s c h (alone c h e) w))
 
     -- it serves itself
     pub light-self : (rest : List Queued) → new me .wanted ≢ IR → Light n new rest

@@ -8,7 +8,7 @@ use native.Mathlib.Omega.{arith}
 use lib.ListN.{length, getD}
 use Rattle.base.specs.Sums.{same?}
 use Rattle.base.specs.Lists.{remove, mem-at}
-use Rattle.modes.specs.Codes.{none, IR}
+use Rattle.modes.specs.Codes.{none, IR, W}
 use Rattle.modes.specs.Modes.{agrees, canLend}
 use Rattle.modes.specs.Under.{under, small}
 use Rattle.modes.proofs.Laws.{agrees-sym, agrees-none, under-refl, under-trans, agrees-under, low-small, not-lent-low, under-small-agree}
@@ -23,17 +23,13 @@ use Rattle.table.specs.Tables.{noWire}
 use Rattle.facts.specs.Wires.{wire, leavingSent}
 use Rattle.owning.specs.Parts.{part}
 use Rattle.owning.specs.Clauses.{Agreeing, Pairs}
-use Rattle.owning.specs.Owned.{part-under, entries-none}
+use Rattle.owning.specs.Owned.{part-under, agrees-part, entries-none}
 use Rattle.owning.specs.Changes.{Falls, Alters, same-falls, modes-alters, wanted-same, granted-alters, credited-same, lent-alters, passed-owned, reduced-falls, tokened-entry, tokened-held}
 use Rattle.owning.specs.Falls.{alters-agreeing}
 use Rattle.owning.specs.Weaker.{hand-back-falls, passed-falls, passed-weaker}
 use Rattle.owning.specs.Messages.{kind, Unnamed}
 use Rattle.owning.specs.Covered.{Covered, covered-under}
 use Rattle.owning.specs.Pairs.{TokenFits, token-fits, pairs-taken, pairs-sent, pairs-leaving, pairs-falls, pairs-loan, pairs-unnamed}
-
--- any mode agrees with every entry of a room that has none
-pub agrees-no-entries : (r : Room) → hasNoEntries r ≡ true → (h : ℕ) → h < 6 → (i : ℕ) → i < roomLimit → agrees h (part r i) ≡ true
-agrees-no-entries r e h code i l = rw (entries-none r e i l) (agrees-none h code)
 
 module _ (n : ℕ) (old new : ℕ → Room) (messages : List Wire) (me : ℕ) (low : me < n) (others : (c : ℕ) → c ≢ me → new c ≡ old c)
     (p : Pairs n old messages) where
@@ -48,13 +44,27 @@ module _ (n : ℕ) (old new : ℕ → Room) (messages : List Wire) (me : ℕ) (l
   pairs-want v here =
       pairs-falls n old new messages me low others p (rw here (same-falls (old me) (withModes (old me) (old me .held) v) (wanted-same (old me) v)))
 
+  -- it lends itself a mode
+  pub pairs-self-loan : (h v : ℕ) → canLend (owned (old me)) h ≡ true → new me ≡ withModes (old me) h v → Pairs n new messages
+  pairs-self-loan h v can here = pairs-loan n old new messages me low others p roomLimit h (rw here (modes-alters (old me) h v)) can
+
   -- it holds a mode that agrees with its entries
-  pub pairs-hold : (h v : ℕ) → new me ≡ withModes (old me) h v → ((i : ℕ) → i < roomLimit → agrees h (part (old me) i) ≡ true)
+  hold : (h v : ℕ) → new me ≡ withModes (old me) h v → ((i : ℕ) → i < roomLimit → agrees h (part (old me) i) ≡ true)
       → Unnamed me messages → Pairs n new messages
-  pairs-hold h v here agree unnamed =
+  hold h v here agree unnamed =
       pairs-unnamed n old new messages me low others p
       (rw here (alters-agreeing (old me) (withModes (old me) h v) (p .room me low) roomLimit h (modes-alters (old me) h v) (λ i l ne. agree i (omega arith))))
       unnamed
+
+  -- one that agrees with what it owns
+  pub pairs-hold : (h v : ℕ) → agrees h (owned (old me)) ≡ true → Unnamed me messages → new me ≡ withModes (old me) h v → Pairs n new messages
+  pairs-hold h v agree unnamed here =
+      hold h v here (λ i l. agrees-part (old me) (p .room me low) h agree i (omega arith)) unnamed
+
+  -- any, where it has no entries
+  pub pairs-upgrade : (h v : ℕ) → h ≤ W → hasNoEntries (old me) ≡ true → Unnamed me messages → new me ≡ withModes (old me) h v → Pairs n new messages
+  pairs-upgrade h v code free unnamed here =
+      hold h v here (λ i l. rw (entries-none (old me) free i l) (agrees-none h (omega arith))) unnamed
 
   -- "settle"
   pub pairs-settle : (y l m : ℕ) → new me ≡ credited (old me) m → Pairs n new (messages ++ (wire me y (msg.Reduce l m) ∷ []))
