@@ -1,0 +1,57 @@
+-- What one room owns is none, or under an entry of another: what that other may lend or pass to it.
+use mathlib.Core.Path.{_≡_, refl}
+use mathlib.Core.Logic.{_≢_, _⊎_, inl, inr}
+use mathlib.Core.Bool.{Bool, true, not, _&&_}
+use Prim.Native.Nat.{ℕ, _≤_, _<_}
+use native.Mathlib.Omega.{arith}
+use lib.Dec.{eqb}
+use borrow.Author.Tests.{ne-eqb}
+use Rattle.base.specs.Sums.{same?}
+use Rattle.base.specs.Tests.{_implies_, implies-use, and-both}
+use Rattle.base.specs.Below.{triples-at}
+use Rattle.modes.specs.Codes.{none, IR, codes}
+use Rattle.modes.specs.Modes.{agrees, isStronger, canLend}
+use Rattle.modes.specs.Under.{under, small}
+use Rattle.modes.proofs.Laws.{under-trans, under-refl, none-under, small-code, lends-codes}
+use Rattle.room.specs.declared.Room.{Room}
+use Rattle.room.specs.Limits.{roomLimit}
+use Rattle.room.specs.Record.{entryAt}
+use Rattle.room.specs.Owned.{owned}
+use Rattle.owning.specs.Clauses.{Agreeing}
+use Rattle.owning.specs.Owned.{part-entry, part-under}
+
+-- y owns none, or a mode under some entry of p
+abbrev pub Covered : Room → Room → Type 0
+Covered p y = (owned y ≡ none) ⊎ ((j : ℕ) × (j < roomLimit) × (under (owned y) (entryAt p j .mode) ≡ true))
+
+module _ (p y : Room) (a : Agreeing p) where
+  entry-under : (j : ℕ) → j < roomLimit → under (entryAt p j .mode) (owned p) ≡ true
+  entry-under j h = rw (← part-entry p j h) (part-under p a j (omega arith))
+
+  -- then it is under what p owns
+  pub covered-under : Covered p y → under (owned y) (owned p) ≡ true
+  covered-under (inl e) = rw e (none-under (owned p))
+  covered-under (inr (j, h, u)) = under-trans (owned y) (entryAt p j .mode) (owned p) u (entry-under j h)
+
+  -- a loan of p's fits over what y owns, if a loan of IR finds no more than IR there
+  pub loan-fits : (m : ℕ) → canLend (owned p) m ≡ true → ((j : ℕ) → j < roomLimit → small (entryAt p j .mode) ≡ true)
+      → Covered p y → (m ≡ IR → owned y ≤ IR) → under (owned y) m ≡ true
+  unfolding canLend isStronger agrees under small
+  loan-fits m can weak (inl e) light = rw e (none-under m)
+  loan-fits m can weak (inr (j, h, u)) light = go (same? m IR)
+    where
+      fits : ℕ → ℕ → ℕ → Bool
+      fits o m e = (canLend o m && not (eqb m IR) && small e && under e o) implies under e m
+
+      go : (m ≡ IR) ⊎ (m ≢ IR) → under (owned y) m ≡ true
+      go (inl q) = rw q (low (same? (owned y) none))
+        where
+          low : (owned y ≡ none) ⊎ (owned y ≢ none) → under (owned y) IR ≡ true
+          low (inl z) = rw z (none-under IR)
+          low (inr z) = let k : owned y ≡ IR = omega (arith, light q) in rw k (under-refl IR)
+      go (inr q) =
+          let c = lends-codes (owned p) m can in
+          under-trans (owned y) (entryAt p j .mode) m u
+          (implies-use (canLend (owned p) m && not (eqb m IR) && small (entryAt p j .mode) && under (entryAt p j .mode) (owned p)) _
+          (triples-at codes fits refl (owned p) m (entryAt p j .mode) (c .0) (c .1) (small-code _ (weak j h)))
+          (and-both _ _ (and-both _ _ (and-both _ _ can (rw (ne-eqb m IR q))) (weak j h)) (entry-under j h)))
