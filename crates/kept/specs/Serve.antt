@@ -43,7 +43,7 @@ module _ (n : ℕ) (rooms : ℕ → Room) (kept : List Wire) where
 
   module _ (w : Work) (a : Whole n rooms kept w) where
     -- "a waiting upgrade with no entries becomes a held W": it was not named before and is not after
-    upgraded-kept : w .room .token ≡ true → Whole n rooms kept (withQueue (upgraded w) (w .queue))
+    pub upgraded-kept : w .room .token ≡ true → Whole n rooms kept (withQueue (upgraded w) (w .queue))
     unfolding upgraded upgradeWaits hold due
     upgraded-kept with =
         by-test (λ (v : Work). Whole n rooms kept (withQueue v (w .queue))) (upgradeWaits (w .room) && hasNoEntries (w .room)) (hold w W) w
@@ -56,7 +56,7 @@ module _ (n : ℕ) (rooms : ℕ → Room) (kept : List Wire) where
         none : (upgradeWaits (w .room) && hasNoEntries (w .room)) ≡ true → due (w .room) ≡ 0
         none e = rw (eqb-true (w .room .held) U (and-left (eqb (w .room .held) U) _ (and-left (upgradeWaits (w .room)) _ e))) refl
 
-    upgraded-token : w .room .token ≡ true → upgraded w .room .token ≡ true
+    pub upgraded-token : w .room .token ≡ true → upgraded w .room .token ≡ true
     unfolding upgraded hold
     upgraded-token with = by-test (λ (v : Work). v .room .token ≡ true) (upgradeWaits (w .room) && hasNoEntries (w .room)) (hold w W) w (λ e. with) (λ e. with)
 

@@ -6,3 +6,6 @@ pub mod Settling
 pub mod Requesting
 pub mod Receiving
 pub mod Turning
+pub mod Done
+pub mod Serve
+pub mod Settle
