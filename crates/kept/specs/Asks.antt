@@ -32,7 +32,7 @@ use Rattle.kept.specs.Turns.{held-waits, waits-one}
 use Rattle.kept.specs.Serve.{settle-or-serve-kept}
 
 -- what a room that wants nothing, or holds nothing, is due
-due-none : (r : Room) → r .wanted ≡ 0 → due r ≡ 0
+pub due-none : (r : Room) → r .wanted ≡ 0 → due r ≡ 0
 unfolding due
 due-none r e = by-test (λ (m : ℕ). m ≡ 0) (eqb (r .held) 0) (r .wanted) 0 (λ h. e) (λ h. refl)
 
@@ -50,7 +50,7 @@ module _ (n : ℕ) (rooms : ℕ → Room) (kept : List Wire) (w : Work) (a : Who
   facts = own-room n rooms kept w empty 0 a
 
   -- x, which does not wait, holds m from now on, and still does not wait
-  hold-kept : (m : ℕ) → m ≤ W → due (withModes (w .room) m 0) ≡ 0 → (m ≡ U → w .room .token ≡ true) → (m ≡ W → w .room .token ≡ true)
+  pub hold-kept : (m : ℕ) → m ≤ W → due (withModes (w .room) m 0) ≡ 0 → (m ≡ U → w .room .token ≡ true) → (m ≡ W → w .room .token ≡ true)
       → Whole n rooms kept (hold w m)
   unfolding hold
   hold-kept m code waits u v =

@@ -9,3 +9,5 @@ pub mod Turning
 pub mod Done
 pub mod Serve
 pub mod Settle
+pub mod Begins
+pub mod Asks
