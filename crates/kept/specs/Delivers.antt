@@ -24,7 +24,7 @@ use Rattle.table.specs.declared.Wire.{Wire}
 use Rattle.table.specs.declared.Message.{Message}
 use Rattle.table.specs.declared.Message.the-variants as msg
 use Rattle.table.specs.Formed.{due, isMode, messageFine, namesRightly, isToken, isNamedIn, tokens, names}
-use Rattle.rules.specs.Work.{Work, withRoom, send, join, sendOut}
+use Rattle.rules.specs.Work.{Work, withRoom, send, join, sendOut, change}
 use Rattle.rules.specs.Rules.{lend, settle, serve, takeRequest, receive}
 use Rattle.facts.specs.Rooms.{RoomFacts}
 use Rattle.kept.specs.Changed.{changed-same}
@@ -135,16 +135,14 @@ module _ (n : ℕ) (rooms : ℕ → Room) (kept : List Wire) (w : Work) (from : 
         (λ e. e)
 
     -- "TOKEN: .. then no lender, credit none, toward itself, held the mode, wanted none; its entry for a is the remaining mode .. then serve"
-    token-kept : (m rest l : ℕ) → 1 ≤ m → m ≤ W → rest ≤ W → due (now rooms w (w .me)) ≡ m
-        → At n rooms kept w (only (w .me)) 1 → Whole n rooms kept (receive w from (msg.Token m rest l))
-    unfolding receive tokened tokenedBy
-    token-kept m rest l some code rest-code waits a =
-        serve-kept n rooms kept (sendOut (withRoom w rooted) (leaving (w .room) from))
-        (put-leaving n rooms kept (withRoom w rooted) (w .room) from (facts .lender-low) (facts .lender-other)
+    pub arrived-kept : (m rest l : ℕ) → 1 ≤ m → m ≤ W → rest ≤ W → due (now rooms w (w .me)) ≡ m
+        → At n rooms kept w (only (w .me)) 1 → Whole n rooms kept (change w (tokened (w .room) (w .me) from m rest l))
+    unfolding tokened tokenedBy
+    arrived-kept m rest l some code rest-code waits a =
+        put-leaving n rooms kept (withRoom w rooted) (w .room) from (facts .lender-low) (facts .lender-other)
         (set-unnamed n rooms kept w (only (w .me)) 1 a rooted rooted-facts long (unnamed m 1 some waits a) empty 0 ended
         (sym (ap (λ (d : ℕ). one (ltb 0 d)) (held-waits rooted m some)))
-        (rw (tokenless a) refl)))
-        (ap (λ (r : Room). r .token) (sent-room (withRoom w rooted) (leaving (w .room) from)))
+        (rw (tokenless a) refl))
       where
         facts : RoomFacts n (w .me) (w .room)
         facts = own-room n rooms kept w (only (w .me)) 1 a
@@ -172,17 +170,27 @@ module _ (n : ℕ) (rooms : ℕ → Room) (kept : List Wire) (w : Work) (from : 
         long : length (set (w .room .entries) from (entryOf rest l)) ≡ roomLimit
         long = length-set (w .room .entries) from (entryOf rest l) ∙ a .long
 
+    token-kept : (m rest l : ℕ) → 1 ≤ m → m ≤ W → rest ≤ W → due (now rooms w (w .me)) ≡ m
+        → At n rooms kept w (only (w .me)) 1 → Whole n rooms kept (receive w from (msg.Token m rest l))
+    unfolding receive tokened tokenedBy
+    token-kept m rest l some code rest-code waits a =
+        serve-kept n rooms kept (change w (tokened (w .room) (w .me) from m rest l)) (arrived-kept m rest l some code rest-code waits a)
+        (ap (λ (r : Room). r .token) (sent-room (withRoom w (tokenedBy (w .room) (w .me) from m rest l)) (leaving (w .room) from)))
+
     -- "REDUCE: if b's entry for a has this link number and a stronger mode than the new one, it takes the new mode; else the message is dropped."
-    reduce-kept : (l m : ℕ) → m ≤ W → Whole n rooms kept w → Whole n rooms kept (receive w from (msg.Reduce l m))
-    unfolding receive reduced due
-    reduce-kept l m code a =
-        settle-or-serve-kept n rooms kept (withRoom w (reduced (w .room) from l m))
-        (by-test (λ (r : Room). Whole n rooms kept (withRoom w r)) (eqb (entryAt (w .room) from .link) l && isStronger (entryAt (w .room) from .mode) m)
+    pub reduced-kept : (l m : ℕ) → m ≤ W → Whole n rooms kept w → Whole n rooms kept (withRoom w (reduced (w .room) from l m))
+    unfolding reduced due
+    reduced-kept l m code a =
+        by-test (λ (r : Room). Whole n rooms kept (withRoom w r)) (eqb (entryAt (w .room) from .link) l && isStronger (entryAt (w .room) from .mode) m)
         (setEntry (w .room) from (entryOf m l)) (w .room)
         (λ e. set-alike n rooms kept w empty 0 a (setEntry (w .room) from (entryOf m l))
         (entry-set-facts n (w .me) (w .room) (own-room n rooms kept w empty 0 a) from m l (a .small) (a .long) from-low apart code)
         (length-set (w .room .entries) from (entryOf m l) ∙ a .long) refl refl)
-        (λ e. a))
+        (λ e. a)
+
+    reduce-kept : (l m : ℕ) → m ≤ W → Whole n rooms kept w → Whole n rooms kept (receive w from (msg.Reduce l m))
+    unfolding receive
+    reduce-kept l m code a = settle-or-serve-kept n rooms kept (withRoom w (reduced (w .room) from l m)) (reduced-kept l m code a)
 
   -- whatever the message is
   pub receive-kept : (m : Message) → Right n (now rooms w) (record { «from» = from; to = w .me; message = m })

@@ -11,3 +11,4 @@ pub mod Serve
 pub mod Settle
 pub mod Begins
 pub mod Asks
+pub mod Heard
