@@ -12,3 +12,4 @@ pub mod Settle
 pub mod Begins
 pub mod Asks
 pub mod Heard
+pub mod Delivers

@@ -58,7 +58,7 @@ unfolding isToken
 quiet-leaving messages me r a none w i = ⊎-elim (none w) (λ e. ap (λ (w : Wire). isToken (w .message)) e) (leaving-among messages me r a w i)
 
 -- what holds whether a REDUCE lowers the entry or is dropped
-reduced-either : (r : Room) (a l m : ℕ) (P : Room → Type 0) → P (setEntry r a (entryOf m l)) → P r → P (reduced r a l m)
+pub reduced-either : (r : Room) (a l m : ℕ) (P : Room → Type 0) → P (setEntry r a (entryOf m l)) → P r → P (reduced r a l m)
 unfolding reduced
 reduced-either r a l m P p q =
     by-test P (eqb (entryAt r a .link) l && isStronger (entryAt r a .mode) m) (setEntry r a (entryOf m l)) r (λ b. p) (λ b. q)
