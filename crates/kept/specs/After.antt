@@ -50,15 +50,15 @@ module _ (t : Table) (s : Shaped t) (f : WellFormed t) (kept : List Wire) (w : W
   there : (c : ℕ) → c ≢ w .me → getD (set (t .rooms) (w .me) (w .room)) c noRoom ≡ roomAt t c
   there c e = getD-set-other (t .rooms) (w .me) c (w .room) noRoom e
 
-  rooms-are : now (roomAt t) w ≡ roomAt (after t kept w)
+  pub rooms-are : now (roomAt t) w ≡ roomAt (after t kept w)
   unfolding after
   rooms-are = changed-is (roomAt t) (w .me) (w .room) (roomAt (after t kept w)) here there
 
-  queue-is : queueOf (after t kept w) ≡ w .queue
+  pub queue-is : queueOf (after t kept w) ≡ w .queue
   unfolding after
   queue-is = padded-take queueLimit noQueued (w .queue)
 
-  messages-are : messagesOf (after t kept w) ≡ kept ++ w .sent
+  pub messages-are : messagesOf (after t kept w) ≡ kept ++ w .sent
   unfolding after
   messages-are = padded-take wireLimit noWire (kept ++ w .sent)
 

@@ -21,7 +21,7 @@ use Rattle.facts.specs.Whole.{WellFormed, test-of}
 use Rattle.kept.specs.After.{Lawful}
 
 -- the room with the token, blank otherwise
-abbrev first : Room
+abbrev pub first : Room
 first = withToken blankRoom true 0
 
 module _ (n : ℕ) (some : 1 ≤ n) (small : n ≤ roomLimit) where
@@ -35,7 +35,7 @@ module _ (n : ℕ) (some : 1 ≤ n) (small : n ≤ roomLimit) where
       getD-set-other (replicate roomLimit blankRoom) 0 c first noRoom e ∙ getD-replicate roomLimit c blankRoom noRoom l
 
   -- what holds of the first room with the token and of each other blank room holds of every room
-  room-each : (P : ℕ → Room → Type 0) → P 0 first → ((c : ℕ) → c < roomLimit → c ≢ 0 → P c blankRoom)
+  pub room-each : (P : ℕ → Room → Type 0) → P 0 first → ((c : ℕ) → c < roomLimit → c ≢ 0 → P c blankRoom)
       → (c : ℕ) → c < roomLimit → P c (roomAt (freshTable n) c)
   unfolding freshTable
   room-each P p q zero l = p

@@ -48,11 +48,11 @@ module _ (n : ℕ) (rooms : ℕ → Room) (queue : List Queued) (messages : List
       }
 
 module _ (t : Table) (s : Shaped t) (f : WellFormed t) (u : NoOwnRequest (roomAt t) (messagesOf t)) where
-  sound : Sound (t .n) (roomAt t) (queueOf t) (messagesOf t)
+  pub sound : Sound (t .n) (roomAt t) (queueOf t) (messagesOf t)
   sound = sound-of (t .n) (roomAt t) (queueOf t) (messagesOf t) (f .formed) u
 
   -- room x before it has done anything
-  same-rooms : (x : ℕ) → changed (roomAt t) x (roomAt t x) ≡ roomAt t
+  pub same-rooms : (x : ℕ) → changed (roomAt t) x (roomAt t x) ≡ roomAt t
   same-rooms x = changed-is (roomAt t) x (roomAt t x) (roomAt t) refl (λ c e. refl)
 
   begun : (x : ℕ) (kept : List Wire) (hand : ℕ → ℕ) (loose : ℕ) → x < t .n → Moment (t .n) (roomAt t) (queueOf t) kept hand loose

@@ -13,3 +13,4 @@ pub mod Begins
 pub mod Asks
 pub mod Heard
 pub mod Delivers
+pub mod Fresh
