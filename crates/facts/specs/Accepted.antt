@@ -5,9 +5,10 @@ use mathlib.Core.Bool.{Bool, true, false, _&&_, _||_, true≢false, false≢true
 use mathlib.Core.List.{List, _∷_}
 use Prim.Native.Nat.{ℕ, _≤_, _<_}
 use native.Mathlib.Omega.{arith}
-use lib.Dec.{leb, eqb}
-use borrow.Author.Tests.{leb-true, leb-false, eqb-true, not-false}
+use lib.Dec.{ltb, leb, eqb}
+use borrow.Author.Tests.{ltb-true, leb-true, leb-false, eqb-true, not-false}
 use Rattle.base.specs.Tests.{and-left, and-right}
+use Rattle.base.specs.Below.{all-at}
 use Rattle.modes.specs.Codes.{IR, U, W}
 use Rattle.table.specs.declared.Table.{Table}
 use Rattle.table.specs.Tables.{roomAt}
@@ -16,8 +17,9 @@ use Rattle.table.specs.declared.Found.the-variants as found
 use Rattle.table.specs.Oldest.{oldestOf}
 use Rattle.table.specs.Formed.{isMode, wellFormed}
 use Rattle.rules.specs.declared.Event.{Event}
+use Rattle.rules.specs.Limits.{busyLimit, wornLimit}
 use Rattle.rules.specs.Events.{isAsk, isUpgrade, isHandBack, isDeliver}
-use Rattle.rules.specs.Refusals.{Row, row, first, refusals, refusal, isFound}
+use Rattle.rules.specs.Refusals.{Row, row, first, refusals, refusal, isFound, anyWorn}
 
 -- the first number is 0 only where the row does not apply
 first-none : (k : ℕ) (b : Bool) (rows : List Row) → first (row k b ∷ rows) ≡ 0 → k ≢ 0 → (b ≡ false) × (first rows ≡ 0)
@@ -36,6 +38,10 @@ or-false-right false q h = h
 nothing-found : (r : Found) → r ≡ found.Nothing → isFound r ≡ true → ⊥
 unfolding isFound
 nothing-found r e h = absurd (false≢true (rw e at h))
+
+all-unworn : (t : Table) → anyWorn t ≡ false → (c : ℕ) → c < t .n → roomAt t c .counter < wornLimit
+unfolding anyWorn
+all-unworn t h c l = ltb-true _ _ (all-at (t .n) (λ c. ltb (roomAt t c .counter) wornLimit) (not-false _ h) c l)
 
 pub record Accepted (t : Table) (e : Event) : Type 0 where
   -- 1 TABLE
@@ -56,6 +62,10 @@ pub record Accepted (t : Table) (e : Event) : Type 0 where
   pub holds : isUpgrade e ≡ true → roomAt t (e .room) .held ≡ U
   -- 8 EMPTY
   pub found : isDeliver e ≡ true → oldestOf t (e .room) (e .other) ≢ found.Nothing
+  -- 9 BUSY
+  pub few : isAsk e ≡ true → t .count < busyLimit
+  -- 10 WORN, by a counter
+  pub unworn : isAsk e ≡ true → (c : ℕ) → c < t .n → roomAt t c .counter < wornLimit
 
 pub accepted : (t : Table) (e : Event) → refusal t e ≡ 0 → Accepted t e
 unfolding refusal refusals
@@ -68,6 +78,8 @@ accepted t e h =
     let six = first-none 6 _ _ (five .1) (λ z. omega arith) in
     let seven = first-none 7 _ _ (six .1) (λ z. omega arith) in
     let eight = first-none 8 _ _ (seven .1) (λ z. omega arith) in
+    let nine = first-none 9 _ _ (eight .1) (λ z. omega arith) in
+    let ten = first-none 10 _ _ (nine .1) (λ z. omega arith) in
     record {
       formed = not-false (wellFormed t) (one .0);
       kinds = λ a u b. rw (a, u, b) at (not-false (isAsk e || isUpgrade e || isHandBack e || isDeliver e) (two .0));
@@ -79,4 +91,6 @@ accepted t e h =
       idle = λ a. eqb-true _ _ (not-false _ (rw a at (five .0)));
       free = λ a. eqb-true _ _ (not-false _ (rw a at (six .0)));
       holds = λ a. eqb-true _ _ (not-false _ (rw a at (or-false-right (isHandBack e && eqb (roomAt t (e .room) .held) 0) _ (seven .0))));
+      few = λ a. leb-false _ _ (rw a at (nine .0));
+      unworn = λ a. all-unworn t (rw a at (ten .0));
     }

@@ -14,3 +14,6 @@ pub mod Asks
 pub mod Heard
 pub mod Delivers
 pub mod Fresh
+pub mod Reached
+pub mod Step
+pub mod Always

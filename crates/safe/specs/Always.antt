@@ -1,0 +1,85 @@
+-- Demand 3, first half, of every table that events lead to from a fresh one; and what later work needs of such a table.
+use mathlib.Core.Path.{_≡_, refl, sym, _∙_, ap, subst}
+use mathlib.Core.Logic.{_≢_}
+use mathlib.Core.Bool.{true, false, not, _&&_, _||_}
+use Prim.Native.Nat.{ℕ, _+_, _≤_, _<_}
+use native.Mathlib.Omega.{arith}
+use lib.Dec.{leb, eqb}
+use borrow.Author.Tests.{lt-leb, eq-eqb, ne-eqb}
+use Rattle.room.specs.declared.Room.{Room}
+use Rattle.table.specs.declared.Table.{Table}
+use Rattle.table.specs.declared.Found.the-variants as found
+use Rattle.table.specs.declared.Message.{Message}
+use Rattle.table.specs.Numbers.{DONE}
+use Rattle.table.specs.Tables.{noWire, roomAt, messagesOf, queueOf, freshTable}
+use Rattle.table.specs.Oldest.{oldestOf}
+use Rattle.table.specs.Formed.{tokens, wellFormed}
+use Rattle.rules.specs.declared.Event.{Event}
+use Rattle.rules.specs.Events.{HANDBACK, DELIVER, isAsk, isUpgrade, isHandBack, isDeliver}
+use Rattle.rules.specs.Refusals.{first, refusals, refusal, isFound}
+use Rattle.rules.specs.Step.{stepOf, runs}
+use Rattle.base.specs.Lists.{mem-at}
+use Rattle.facts.specs.Search.{oldest-low, oldest-there}
+use Rattle.facts.specs.Wires.{wire}
+use Rattle.kept.specs.Fresh.{fresh-has}
+use Rattle.tree.specs.Agreement.{agreement}
+use Rattle.bounds.specs.Limits.{messages-most}
+use Rattle.safe.specs.Fresh.{fresh-safe}
+use Rattle.safe.specs.Reached.{Reached, Demand3}
+use Rattle.safe.specs.Step.{Safe, step-goes, runs-safe, messages-count}
+
+-- every reached table has the invariant
+pub reached-safe : (n : ℕ) (t : Table) → Reached n t → Safe n t
+unfolding freshTable
+reached-safe n t r =
+    subst (Safe n) (r .leads)
+    (runs-safe n (r .events) (freshTable n)
+    (record { rooms = refl; lawful = fresh-has n (r .some) (r .most); invariant = fresh-safe n (r .some) (r .most) }))
+
+module _ (n : ℕ) (t : Table) (r : Reached n t) where
+  safe : Safe n t
+  safe = reached-safe n t r
+
+  limit : t .n ≤ 16
+  limit = omega (arith, safe .rooms, r .most)
+
+  -- "there is always exactly one token, with one room or on one wire, and modes held by two rooms agree"
+  pub demand3 : Demand3 n t
+  unfolding tokens
+  demand3 =
+      record {
+        rooms = safe .rooms;
+        one-token = rw (← safe .rooms) (omega (arith, safe .invariant .sound .token));
+        agree = rw (← safe .rooms)
+            (agreement (t .n) (roomAt t) (messagesOf t) limit (safe .invariant .sound .room) (safe .invariant .clauses .ledger) (safe .invariant .exact)
+            (safe .invariant .clauses .small) (safe .invariant .clauses .pairs) (safe .invariant .clauses .fits) (safe .invariant .clauses .tree)
+            (omega (arith, safe .invariant .sound .token)) (λ w i. safe .invariant .sound .right w i .facts .to-low));
+      }
+
+  -- a reached table is well formed, so a step on it needs no test
+  pub reached-formed : wellFormed t ≡ true
+  reached-formed = safe .lawful .0
+
+  -- at most 176 messages
+  pub reached-few : t .count ≤ 176
+  reached-few = omega (arith, messages-count n t safe, messages-most (t .n) limit (roomAt t) (queueOf t) (messagesOf t) 0 (safe .invariant .clauses .few))
+
+  -- a delivery on a wire with a message is accepted
+  pub delivery-accepted : (e : Event) → e .kind ≡ DELIVER → (k : ℕ) (m : Message) → oldestOf t (e .room) (e .other) ≡ found.At k m
+      → stepOf t e .«number» ≡ DONE
+  unfolding refusal refusals first isFound
+  delivery-accepted e kind k m h = step-goes n t safe e (rw (reached-formed, kind, h, inside .0, inside .1) refl) .0
+    where
+      inside : (leb (t .n) (e .room) ≡ false) × (leb (t .n) (e .other) ≡ false)
+      inside =
+          let i = rw (oldest-there t (e .room) (e .other) k m h) at
+          (safe .invariant .sound .right _ (mem-at (messagesOf t) k noWire (oldest-low t (e .room) (e .other) k m h))) in
+          (lt-leb _ _ (i .facts .from-low), lt-leb _ _ (i .facts .to-low))
+
+  -- a hand-back by a room that holds and does not wait is accepted
+  pub hand-back-accepted : (e : Event) → e .kind ≡ HANDBACK → e .room < n → roomAt t (e .room) .held ≢ 0 → roomAt t (e .room) .wanted ≡ 0
+      → stepOf t e .«number» ≡ DONE
+  unfolding refusal refusals first
+  hand-back-accepted e kind low holds idle =
+      step-goes n t safe e
+      (rw (reached-formed, kind, lt-leb (t .n) (e .room) (omega (arith, safe .rooms)), idle, ne-eqb (roomAt t (e .room) .held) 0 holds) refl) .0
