@@ -11,13 +11,13 @@ use Rattle.room.specs.Rules.{lifted}
 pub record Choices : Type 0 where
   -- whether a REDUCE under this link number is about this entry
   pub matches : Entry → ℕ → Bool
-  -- whether a room without the token may lend to one that says whether it owned nothing
+  -- whether a room without the token may lend to the origin of a REQUEST, by what it says: that the origin owned nothing, or not
   pub mayLend : Bool → Bool
   -- the mode of a room that a request is tested against
   pub tested : Room → ℕ
-  -- the room's record, as far as its entries go, when the token goes to w
+  -- the record of a room that passes the token to w, as far as its entries go
   pub leaves : Room → ℕ → Room
-  -- the counter of a room that had this one and takes a TOKEN with this link number
+  -- the counter of a room that takes a TOKEN, by its counter before and the link number
   pub counts : ℕ → ℕ → ℕ
 
 abbrev choose : (Entry → ℕ → Bool) → (Bool → Bool) → (Room → ℕ) → (Room → ℕ → Room) → (ℕ → ℕ → ℕ) → Choices
@@ -40,7 +40,7 @@ right = choose byLink onlyIdle owned cleared lifted
 abbrev pub byRoom : Entry → ℕ → Bool
 byRoom e l = true
 
--- "Letting a room without the token lend to one that itself has entries"
+-- "Letting a room without the token lend to one that itself has entries": who waits holds nothing, so what it owns it has lent
 abbrev pub anyone : Bool → Bool
 anyone idle = true
 

@@ -1,7 +1,7 @@
 -- What four of document 01's shortcuts lead to from a fresh table: tables that demand 3 forbids.
 use Prim.Native.Nat.{ℕ}
 use mathlib.Core.Path.{_≡_, refl}
-use mathlib.Core.Bool.{true, false, _&&_}
+use mathlib.Core.Bool.{false, _&&_}
 use mathlib.Core.List.{[], _∷_}
 use native.Mathlib.Omega.{arith}
 use Rattle.base.specs.Tests.{clash, _also_}

@@ -6,3 +6,5 @@ pub mod Rests
 pub mod Sessions
 pub mod Ends
 pub mod Forbidden
+pub mod Crossing
+pub mod Owing

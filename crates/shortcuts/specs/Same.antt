@@ -1,12 +1,9 @@
 -- With the choices that the rules make the step is the rules' own: from a fresh table the same events lead to the same tables.
-use mathlib.Core.Path.{_≡_, refl, sym, _∙_, ap, subst⁻¹}
-use mathlib.Core.Bool.{Bool, true, not}
+use mathlib.Core.Path.{_≡_, refl, sym, ap}
+use mathlib.Core.Bool.{true}
 use mathlib.Core.List.{List, [], _∷_}
 use Prim.Native.Nat.{ℕ, _≤_}
-use lib.Dec.{eqb}
-use Rattle.base.specs.Choice.{if_then_else_}
 use Rattle.base.specs.Lists.{remove}
-use Rattle.room.specs.declared.Room.{Room}
 use Rattle.room.specs.Limits.{roomLimit}
 use Rattle.room.specs.Rules.{left, remaining, passedTo, passed, tokenedBy, tokened, reduced}
 use Rattle.table.specs.declared.Table.{Table}
