@@ -1,0 +1,5 @@
+pub mod Cases
+pub mod Way
+pub mod Heights
+pub mod Squeeze
+pub mod Start
