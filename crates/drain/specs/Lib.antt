@@ -6,3 +6,5 @@ pub mod Start
 pub mod Measure
 pub mod Behind
 pub mod Piles
+pub mod Loads
+pub mod Moves

@@ -76,12 +76,17 @@ module _ (height : ℕ → ℕ) (share flag : ℕ) where
       raised true = omega arith
       raised false = omega arith
 
-  -- one message more, at the end
+  -- more messages, at the end
+  pub pile-append : (behind : Wire → Bool) (l more : List Wire)
+      → pile height share flag behind (l ++ more) ≡ pile height share flag behind l + pile height share flag (folds follow behind l) more
+  unfolding pile folds
+  pile-append behind [] more = omega arith
+  pile-append behind (w ∷ l) more = omega (arith, pile-append (follow behind w) l more)
+
   pub pile-sent : (behind : Wire → Bool) (l : List Wire) (x : Wire)
       → pile height share flag behind (l ++ (x ∷ [])) ≡ pile height share flag behind l + charge share (extra height flag (folds follow behind l) x) (x .message)
-  unfolding pile folds
-  pile-sent behind [] x = omega arith
-  pile-sent behind (w ∷ l) x = omega (arith, pile-sent (follow behind w) l x)
+  unfolding pile
+  pile-sent behind l x = omega (arith, pile-append behind l (x ∷ []))
 
   -- the oldest message of its wire is taken off: nothing stands behind it for that
   pub pile-taken : (l : List Wire) (behind : Wire → Bool) (k a y : ℕ) (m : Message) → k < length l → getD l k noWire ≡ wire a y m
