@@ -8,3 +8,4 @@ pub mod Behind
 pub mod Piles
 pub mod Loads
 pub mod Moves
+pub mod Falls

@@ -1,5 +1,5 @@
 -- What the laws of the measure have in common: the number of TOKENs, the cost of leaving a lender, and the rooms of which one changes.
-use mathlib.Core.Path.{_≡_, _∙_, ap, sym}
+use mathlib.Core.Path.{_≡_, refl, sym, _∙_, ap}
 use mathlib.Core.Logic.{_≢_}
 use mathlib.Core.Bool.{Bool}
 use mathlib.Core.List.{List, [], _∷_, _++_}
@@ -17,9 +17,10 @@ use Rattle.table.specs.Tables.{noWire}
 use Rattle.table.specs.Formed.{isToken}
 use Rattle.facts.specs.Wires.{wire, leavingSent}
 use Rattle.bounds.specs.Bounds.{level}
-use Rattle.bounds.specs.Weights.{level-none, level-falls}
+use Rattle.bounds.specs.Weights.{level-falls, requests}
 use Rattle.drain.specs.Cases.{leaving-either}
-use Rattle.drain.specs.Measure.{pending, tokensIn, charge, pile, own, load, potential}
+use Rattle.drain.specs.Measure.{pending, tokensIn, charge, pile, nothing, own, load, potential}
+use Rattle.drain.specs.Piles.{pile-share}
 
 -- the measure, with its number of names and of TOKENs under other terms
 pub potential-at : (n : ℕ) (rooms : ℕ → Room) (queue : List Queued) (messages : List Wire) (hand : ℕ) (height : ℕ → ℕ) (names flag : ℕ)
@@ -27,6 +28,23 @@ pub potential-at : (n : ℕ) (rooms : ℕ → Room) (queue : List Queued) (messa
 unfolding potential
 potential-at n rooms queue messages hand height names flag p q =
     ap (λ (k : ℕ). load n rooms messages height k (tokensIn messages)) p ∙ ap (λ (k : ℕ). load n rooms messages height names k) q
+
+-- a name in hand is let go: every REQUEST costs one less
+pub potential-dropped : (n : ℕ) (rooms : ℕ → Room) (queue : List Queued) (messages : List Wire) (hand : ℕ) (height : ℕ → ℕ)
+    → potential n rooms queue messages (hand + 1) height ≡ potential n rooms queue messages hand height + requests messages + 4
+unfolding potential load
+potential-dropped n rooms queue messages hand height = omega (
+  arith,
+  potential-at n rooms queue messages (hand + 1) height (names + 1) (tokensIn messages) (omega arith) refl,
+  ap (λ (s : ℕ). pile height s (tokensIn messages) nothing messages) share,
+  pile-share height (1 + names) (tokensIn messages) nothing messages,
+)
+  where
+    names : ℕ
+    names = pending queue messages hand
+
+    share : 1 + (names + 1) ≡ 1 + names + 1
+    share = omega arith
 
 -- TOKENs under way: one message more, one less, and what goes to an old lender
 module _ (l : List Wire) where
