@@ -1,12 +1,11 @@
 -- The measure where one room's record changes: it falls with each hand-back and each message that arrives, and nothing else raises it.
-use mathlib.Core.Path.{_≡_, refl, sym, _∙_, ap}
+use mathlib.Core.Path.{_≡_, refl, _∙_, ap}
 use mathlib.Core.Logic.{_≢_}
-use mathlib.Core.Bool.{Bool, true, false}
+use mathlib.Core.Bool.{true, false}
 use mathlib.Core.List.{List, [], _∷_, _++_}
 use Prim.Native.Nat.{ℕ, _+_, _≤_, _<_}
 use native.Mathlib.Omega.{arith}
 use lib.Dec.{ltb}
-use lib.ListN.{length}
 use borrow.Author.Tests.{lt-ltb}
 use Rattle.base.specs.Sums.{one, one-le, sum}
 use Rattle.base.specs.Folds.{folds}
@@ -23,14 +22,14 @@ use Rattle.table.specs.declared.Wire.{Wire}
 use Rattle.table.specs.declared.Queued.{Queued}
 use Rattle.table.specs.declared.Message.{Message}
 use Rattle.table.specs.declared.Message.the-variants as msg
-use Rattle.table.specs.Formed.{isToken}
+use Rattle.table.specs.Formed.{isToken, tokens}
 use Rattle.facts.specs.Wires.{wire, leavingSent}
 use Rattle.ledger.specs.Takes.{Oldest}
 use Rattle.bounds.specs.Bounds.{level, isRequest}
-use Rattle.bounds.specs.Weights.{requests, level-le, level-none, level-falls, requests-sent, requests-taken, requests-leaving}
+use Rattle.bounds.specs.Weights.{level-le, level-none, level-falls, requests-sent, requests-taken, requests-leaving}
 use Rattle.drain.specs.Cases.{passed-either, credited-either, reduced-either}
 use Rattle.drain.specs.Way.{rerooted}
-use Rattle.drain.specs.Measure.{pending, tokensIn, charge, follow, pile, nothing, own, load, potential}
+use Rattle.drain.specs.Measure.{pending, tokensIn, charge, follow, nothing, own, load, potential}
 use Rattle.drain.specs.Piles.{pile-flag, pile-append, pile-sent, pile-taken, pile-token-taken}
 use Rattle.drain.specs.Loads.{potential-at, potential-dropped, tokens-sent, tokens-taken, tokens-leaving, leaving-paid, owns}
 
@@ -73,10 +72,10 @@ module _ (n : ℕ) (old new : ℕ → Room) (messages : List Wire) (me : ℕ) (l
   -- What is sent.
 
   -- a message more, whatever it costs, of a kind that is no REQUEST
-  sent-at : (b : ℕ) (m : Message) (tokens : ℕ) → isRequest m ≡ false → flag + one (isToken m) ≡ tokens
-      → potential n new queue (messages ++ (wire me b m ∷ [])) hand height ≡ load n new (messages ++ (wire me b m ∷ [])) height names tokens
-  sent-at b m tokens plain is =
-      potential-at n new queue (messages ++ (wire me b m ∷ [])) hand height names tokens
+  sent-at : (b : ℕ) (m : Message) (under : ℕ) → isRequest m ≡ false → flag + one (isToken m) ≡ under
+      → potential n new queue (messages ++ (wire me b m ∷ [])) hand height ≡ load n new (messages ++ (wire me b m ∷ [])) height names under
+  sent-at b m under plain is =
+      potential-at n new queue (messages ++ (wire me b m ∷ [])) hand height names under
       (omega (arith, requests-sent messages me b m, ap one plain)) (tokens-sent messages me b m ∙ is)
 
   -- the name in hand pays for the GRANT
@@ -147,11 +146,11 @@ module _ (n : ℕ) (old new : ℕ → Room) (messages : List Wire) (me : ℕ) (l
   )
 
   -- the heights go up by one, and the flag goes down
-  pub falls-token : (k a m rest l : ℕ) → Oldest messages k a me (msg.Token m rest l) → tokensIn messages ≤ 1
+  pub falls-token : (k a m rest l : ℕ) → Oldest messages k a me (msg.Token m rest l) → tokens n old messages ≡ 1
       → new me ≡ tokenedBy (old me) me a m rest l → (old me .credit ≡ 0 → old me .lender ≡ nobody)
       → potential n new queue (remove k messages ++ leavingSent me (old me) a) hand (rerooted me height)
       < potential n old queue messages hand height
-  unfolding potential load own tokenedBy isToken isRequest
+  unfolding potential load own tokenedBy isToken isRequest tokens
   falls-token k a m rest l oldest single here free = omega (
     arith,
     potential-at n new queue (remove k messages ++ leavingSent me (old me) a) hand (rerooted me height) names 0

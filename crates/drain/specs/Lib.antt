@@ -10,3 +10,4 @@ pub mod Loads
 pub mod Moves
 pub mod Falls
 pub mod Bound
+pub mod Tight

@@ -6,7 +6,7 @@ use mathlib.Core.List.{List, [], _∷_, _++_, List·Memᴰ·head, List·Memᴰ·
 use Prim.Native.Nat.{ℕ, _+_, _≤_, _<_}
 use native.Mathlib.Omega.{arith}
 use lib.Dec.{eqb}
-use lib.ListN.{length, length-append}
+use lib.ListN.{length-append}
 use borrow.Author.Tests.{eqb-true}
 use Rattle.base.specs.Choice.{if_then_else_, split}
 use Rattle.base.specs.Tests.{clash, and-left, and-right}
@@ -18,7 +18,6 @@ use Rattle.table.specs.declared.Wire.{Wire}
 use Rattle.table.specs.declared.Queued.{Queued}
 use Rattle.table.specs.declared.Message.{Message}
 use Rattle.table.specs.declared.Message.the-variants as msg
-use Rattle.table.specs.Oldest.{between}
 use Rattle.table.specs.Formed.{isToken}
 use Rattle.facts.specs.Wires.{wire}
 use Rattle.ledger.specs.Frames.{same-wire}
@@ -26,7 +25,7 @@ use Rattle.ledger.specs.Links.{Sender}
 use Rattle.ledger.specs.Senders.{sender-taken}
 use Rattle.ledger.specs.Takes.{Oldest}
 use Rattle.bounds.specs.Bounds.{isRequest}
-use Rattle.bounds.specs.Weights.{requests, requests-sent, requests-taken}
+use Rattle.bounds.specs.Weights.{requests-sent, requests-taken}
 use Rattle.drain.specs.Way.{passing, Leads}
 use Rattle.drain.specs.Heights.{leads-request-taken}
 use Rattle.drain.specs.Measure.{pending, tokensIn, charge, follow, extra, pile, nothing, load, potential}

@@ -1,14 +1,13 @@
 -- Laws of the sum over the messages: one message more, one less, another share, another flag, other heights.
 use mathlib.Core.Path.{_≡_, refl, sym, _∙_, ap}
 use mathlib.Core.Logic.{_⊎_, inl, inr, ⊎-elim}
-use mathlib.Core.Bool.{Bool, true, false, _||_}
+use mathlib.Core.Bool.{Bool, true, false}
 use mathlib.Core.List.{List, [], _∷_, _++_}
 use Prim.Native.Nat.{ℕ, zero, suc, _+_, _≤_, _<_}
 use native.Mathlib.Nat.{not-suc-le-zero, le-of-suc-le-suc}
 use native.Mathlib.Omega.{arith}
-use lib.Dec.{eqb}
 use lib.ListN.{length, getD}
-use Rattle.base.specs.Choice.{if_then_else_, by-test, split}
+use Rattle.base.specs.Choice.{if_then_else_, split}
 use Rattle.base.specs.Tests.{or-use, or-left, or-right, clash}
 use Rattle.base.specs.Sums.{one}
 use Rattle.base.specs.Folds.{folds}
