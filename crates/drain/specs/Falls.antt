@@ -150,7 +150,7 @@ module _ (n : ℕ) (old new : ℕ → Room) (messages : List Wire) (me : ℕ) (l
       → new me ≡ tokenedBy (old me) me a m rest l → (old me .credit ≡ 0 → old me .lender ≡ nobody)
       → potential n new queue (remove k messages ++ leavingSent me (old me) a) hand (rerooted me height)
       < potential n old queue messages hand height
-  unfolding potential load own tokenedBy isToken isRequest tokens
+  unfolding load own tokenedBy isToken isRequest tokens
   falls-token k a m rest l oldest single here free = omega (
     arith,
     potential-at n new queue (remove k messages ++ leavingSent me (old me) a) hand (rerooted me height) names 0

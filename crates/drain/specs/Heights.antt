@@ -73,7 +73,6 @@ module _ (n : ℕ) (rooms : ℕ → Room) (messages : List Wire) (height : ℕ �
       leads c h t (omega (arith, z, passing-taken c messages k a b (msg.Request o m idle) inside there))
 
   pub leads-request-sent : (a b o m : ℕ) (idle : Bool) → Leads n rooms (messages ++ (wire a b (msg.Request o m idle) ∷ [])) height
-  unfolding isToken
   leads-request-sent a b o m idle c h t z = leads c h t (omega (arith, z, passing-sent c messages a b (msg.Request o m idle)))
 
 -- Changes of one room's record.
