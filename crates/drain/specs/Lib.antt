@@ -1,2 +1,4 @@
 pub mod Drains
 pub mod Weighs
+pub mod Lower
+pub mod Delivers

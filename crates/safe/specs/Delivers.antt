@@ -48,10 +48,10 @@ use Rattle.safe.specs.Settle.{Owing, settling}
 use Rattle.safe.specs.Heard.{taking, request-safe}
 
 -- what a room that leaves its lender has sent
-abbrev sending : ℕ → Room → List Queued → List Wire → Work
+abbrev pub sending : ℕ → Room → List Queued → List Wire → Work
 sending me room queue sent = record { me = me; room = room; queue = queue; sent = sent; worn = false }
 
-left-work : (me : ℕ) (room r : Room) (queue : List Queued) (a : ℕ)
+pub left-work : (me : ℕ) (room r : Room) (queue : List Queued) (a : ℕ)
     → sendOut (taking me room queue) (leaving r a) ≡ sending me room queue (leavingSent me r a)
 unfolding leaving sendOut send leavingSent
 left-work me room r queue a = go (eqb (r .lender) nobody || eqb (r .lender) a)
