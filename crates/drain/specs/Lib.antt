@@ -2,3 +2,5 @@ pub mod Drains
 pub mod Weighs
 pub mod Lower
 pub mod Delivers
+pub mod Steps
+pub mod Ways
