@@ -4,3 +4,4 @@ pub mod Lower
 pub mod Delivers
 pub mod Steps
 pub mod Ways
+pub mod Pots
