@@ -5,3 +5,8 @@ pub mod Delivers
 pub mod Steps
 pub mod Ways
 pub mod Pots
+pub mod Quiet
+pub mod Rest
+pub mod Refused
+pub mod Further
+pub mod Ends
