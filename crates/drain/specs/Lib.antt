@@ -1,1 +1,3 @@
 pub mod Drains
+pub mod Gets
+pub mod Given
