@@ -10,3 +10,5 @@ pub mod Rest
 pub mod Refused
 pub mod Further
 pub mod Ends
+pub mod Gets
+pub mod Given
