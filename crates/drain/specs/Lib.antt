@@ -12,3 +12,4 @@ pub mod Further
 pub mod Ends
 pub mod Gets
 pub mod Given
+pub mod Always
