@@ -8,7 +8,7 @@ use Rattle.safe.specs.Always.{reached-safe}
 use Rattle.drain.specs.Drains.{steps, Drains}
 use Rattle.drain.specs.Pots.{Pot, pot-falls, pot-start, pot-tight}
 use Rattle.drain.specs.Further.{drained-rests}
-use Rattle.drain.specs.Ends.{few, ends}
+use Rattle.drain.specs.Ends.{few, ends, comes}
 use Rattle.drain.specs.Given.{given-way}
 
 module _ (n : ℕ) (t : Table) (r : Reached n t) where
@@ -19,6 +19,7 @@ module _ (n : ℕ) (t : Table) (r : Reached n t) where
         rests = λ es h. drained-rests n t r es h;
         given = λ es h c l w. given-way n es t (reached-safe n t r) c l w (drained-rests n t r es h c l);
         ends = ends n Pot (pot-falls n) t _ r (pot-start n t r);
+        comes = λ choose choosing. comes n Pot (pot-falls n) choose choosing t _ r (pot-start n t r);
       }
 
   -- the closer bound

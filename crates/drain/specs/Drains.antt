@@ -1,5 +1,5 @@
 -- Demand 3, second half: what is said of deliveries and hand-backs alone.
-use Prim.Native.Nat.{ℕ, _+_, _*_, _≤_, _<_}
+use Prim.Native.Nat.{ℕ, zero, suc, _+_, _*_, _≤_, _<_}
 use mathlib.Core.Path.{_≡_}
 use mathlib.Core.Logic.{_≢_, _⊎_}
 use mathlib.Core.Bool.{Bool, true, false, _||_}
@@ -49,10 +49,22 @@ unfoldable pub HeldOnTheWay : ℕ → ℕ → Table → List Event → Type 0
 HeldOnTheWay c m t [] = roomAt t c .held ≡ m
 HeldOnTheWay c m t (e ∷ es) = (roomAt t c .held ≡ m) ⊎ HeldOnTheWay c m (drainedBy t e) es
 
+-- "whoever goes on as long as something can be accepted": a way to choose the next event, and the table after k of its choices
+unfoldable pub goesOn : (Table → Event) → ℕ → Table → Table
+goesOn choose zero t = t
+goesOn choose (suc k) t = goesOn choose k (drainedBy t (choose t))
+
+-- it chooses a delivery or a hand-back that is accepted, unless none is
+abbrev pub Choosing : ℕ → (Table → Event) → Type 0
+Choosing n choose =
+    (t : Table) → Reached n t → Resting t ⊎ ((isDraining (choose t) ≡ true) × (stepOf t (choose t) .«number» ≡ DONE))
+
 -- Demand 3, second half, of a table that events lead to
 pub record Drains (n : ℕ) (t : Table) : Type 0 where
   pub few : (es : List Event) → steps t es ≤ bound t
   pub rests : (es : List Event) → Resting (drained t es) → (c : ℕ) → c < n → roomAt (drained t es) c .wanted ≡ 0
   pub given : (es : List Event) → Resting (drained t es) → (c : ℕ) → c < n → roomAt t c .wanted ≢ 0
       → HeldOnTheWay c (roomAt t c .wanted) t es
+  -- such an end is reached: by some deliveries and hand-backs, and by whoever goes on, within the bound
   pub ends : (es : List Event) × Resting (drained t es)
+  pub comes : (choose : Table → Event) → Choosing n choose → (k : ℕ) × (k ≤ bound t) × Resting (goesOn choose k t)

@@ -16,7 +16,7 @@ use Rattle.rules.specs.declared.Event.{Event}
 use Rattle.rules.specs.Step.{stepOf}
 use Rattle.kept.specs.Kept.{refused-stays}
 use Rattle.safe.specs.Reached.{Reached}
-use Rattle.drain.specs.Drains.{isDraining, drainedBy, isMade, drained, steps, Resting}
+use Rattle.drain.specs.Drains.{goesOn, Choosing, isDraining, drainedBy, isMade, drained, steps, Resting}
 use Rattle.drain.specs.Quiet.{Moves}
 use Rattle.drain.specs.Refused.{rests-or-moves}
 use Rattle.drain.specs.Further.{step-reached, drained-by-reached}
@@ -76,3 +76,22 @@ module _ (n : ℕ) (Pot : Table → ℕ → Type 0)
 
   pub ends : (t : Table) (k : ℕ) → Reached n t → Pot t k → (es : List Event) × Resting (drained t es)
   ends t k r p = ends-within (suc k) t k r p (omega arith)
+
+  -- whoever goes on as long as something can be accepted comes to rest
+  module _ (choose : Table → Event) (choosing : Choosing n choose) where
+    comes-within : (b : ℕ) (t : Table) (k : ℕ) → Reached n t → Pot t k → k < b → (j : ℕ) × (j ≤ k) × Resting (goesOn choose j t)
+    unfolding goesOn
+    comes-within zero t k r p h = absurd (not-suc-le-zero h)
+    comes-within (suc b) t k r p h = go (choosing t r) (λ u j s q l. comes-within b u j s q (omega arith))
+      where
+        go : Resting t ⊎ ((isDraining (choose t) ≡ true) × (stepOf t (choose t) .«number» ≡ DONE))
+            → ((u : Table) (j : ℕ) → Reached n u → Pot u j → j < k → (i : ℕ) × (i ≤ j) × Resting (goesOn choose i u))
+            → (j : ℕ) × (j ≤ k) × Resting (goesOn choose j t)
+        go (inl q) next = (zero, omega arith, q)
+        go (inr (d, q)) next =
+            let f = fall t k r p (choose t) d q in
+            let rest = next (stepOf t (choose t) .table) (f .0) (step-reached n t r (choose t)) (f .2) (f .1) in
+            (suc (rest .0), omega (arith, rest .1, f .1), subst⁻¹ (λ (u : Table). Resting (goesOn choose (rest .0) u)) (drained-step t (choose t) d) (rest .2))
+
+    pub comes : (t : Table) (k : ℕ) → Reached n t → Pot t k → (j : ℕ) × (j ≤ k) × Resting (goesOn choose j t)
+    comes t k r p = comes-within (suc k) t k r p (omega arith)
