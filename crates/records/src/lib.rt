@@ -1,15 +1,15 @@
 // The rooms' records: each as it should be, or blank, and what is seen of them.
 ghost use mathlib.Core.Path.{_≡_};
 ghost use Rattle.table.specs.Formed.{entryFine, isBlankRoom};
-ghost use Rattle.formed.specs.Parts.{holdsRightly, owesRightly, entriesFine, roomPlaceFine};
-ghost use Rattle.formed.specs.Seen.{standing, standingAt, seenIn};
-use super::ranges::is_code;
+ghost use Rattle.records.specs.Parts.{holdsRightly, owesRightly, entriesFine, roomPlaceFine};
+ghost use Rattle.records.specs.Seen.{standing, seenIn};
 use modes::IR;
 use modes::IW;
 use modes::NONE;
 use modes::R;
 use modes::U;
 use modes::W;
+use modes::is_code;
 use room::Entry;
 use room::NOBODY;
 use room::ROOMS;
@@ -186,19 +186,5 @@ pub fn look_over(n: u8, rooms: [Room; ROOMS]) -> Seen
         fine: true,
         tokens: tokens,
         rooms: standings,
-    }
-}
-
-// The standing of room c; none where there is no such room.
-pub fn standing_at(rooms: [Standing; ROOMS], c: u8) -> Standing
-    ensures { λ s. ⌜ s ≡ standingAt rooms c ⌝ }
-{
-    let at = c as usize;
-    if at < ROOMS {
-        return rooms[at];
-    }
-    Standing {
-        due: 0,
-        token: false,
     }
 }

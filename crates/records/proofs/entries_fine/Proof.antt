@@ -10,9 +10,9 @@ use Rattle.base.specs.Below.{allBelow, all-more, all-fails}
 use Rattle.room.specs.declared.Entry.{Entry}
 use Rattle.room.specs.Record.{noEntry}
 use Rattle.table.specs.Formed.{entryFine}
-use Rattle.formed.proofs.rooms.Laws.{entries-all}
-use Rattle.formed.proofs.rooms.entries_fine.Statement.{statement}
-use Rattle.formed.proofs.rooms.entries_fine.Tie as tie
+use Rattle.records.proofs.Laws.{entries-all}
+use Rattle.records.proofs.entries_fine.Statement.{statement}
+use Rattle.records.proofs.entries_fine.Tie as tie
 
 -- the test of one entry
 abbrev test : ℕ → ℕ → List Entry → ℕ → Bool

@@ -12,10 +12,10 @@ use Rattle.base.specs.Below.{allBelow, all-fails}
 use Rattle.base.specs.Sums.{countBelow, same?}
 use Rattle.room.specs.declared.Room.{Room}
 use Rattle.room.specs.Record.{noRoom}
-use Rattle.formed.specs.declared.rooms.Standing.{Standing}
-use Rattle.formed.specs.Parts.{roomPlaceFine}
-use Rattle.formed.specs.Seen.{noStanding, standing, seenIn}
-use Rattle.formed.proofs.Lists.{listed-is}
+use Rattle.records.specs.declared.Standing.{Standing}
+use Rattle.records.specs.Parts.{roomPlaceFine}
+use Rattle.records.specs.Seen.{noStanding, standing, seenIn}
+use Rattle.records.proofs.Lists.{listed-is}
 
 -- the first c places of an array of sixteen hold the standings of the first c rooms
 pub record Filled (rooms : List Room) (standings : List Standing) (c : ℕ) : Type 0 where

@@ -11,11 +11,11 @@ use Rattle.base.specs.Below.{allBelow, all-more}
 use Rattle.base.specs.Sums.{countBelow, count-below-le, sum-none}
 use Rattle.room.specs.declared.Room.{Room}
 use Rattle.room.specs.Record.{noRoom}
-use Rattle.formed.specs.Parts.{roomPlaceFine}
-use Rattle.formed.proofs.Lists.{count-one, count-same}
-use Rattle.formed.proofs.rooms.Standings.{Filled, filled-none, filled-more, seen-ill, seen-all}
-use Rattle.formed.proofs.rooms.look_over.Statement.{statement}
-use Rattle.formed.proofs.rooms.look_over.Tie as tie
+use Rattle.records.specs.Parts.{roomPlaceFine}
+use Rattle.records.proofs.Lists.{count-one, count-same}
+use Rattle.records.proofs.Standings.{Filled, filled-none, filled-more, seen-ill, seen-all}
+use Rattle.records.proofs.look_over.Statement.{statement}
+use Rattle.records.proofs.look_over.Tie as tie
 
 -- the test of one place
 abbrev test : ℕ → List Room → ℕ → Bool

@@ -1,7 +1,7 @@
-use Rattle.formed.proofs.rooms.Laws.{room-past, room-toward, room-token, room-holds, room-owes, room-entries}
+use Rattle.records.proofs.Laws.{room-past, room-toward, room-token, room-holds, room-owes, room-entries}
 use borrow.Author.Needs.{needs}
-use Rattle.formed.proofs.rooms.room_fine.Statement.{statement}
-use Rattle.formed.proofs.rooms.room_fine.Tie as tie
+use Rattle.records.proofs.room_fine.Statement.{statement}
+use Rattle.records.proofs.room_fine.Tie as tie
 
 room-blank-requires : tie.Need-room-blank-requires
 room-blank-requires c κs = search needs

@@ -1,8 +1,8 @@
 use native.Mathlib.Omega.{arith}
-use Rattle.formed.proofs.rooms.Laws.{holds-high, holds-none, holds-alone, holds-U-without, holds-U-alone, holds-U-upgrade, holds-W-without, holds-W-alone}
+use Rattle.records.proofs.Laws.{holds-high, holds-none, holds-alone, holds-U-without, holds-U-alone, holds-U-upgrade, holds-W-without, holds-W-alone}
 use borrow.Author.Needs.{needs}
-use Rattle.formed.proofs.rooms.holds_rightly.Statement.{statement}
-use Rattle.formed.proofs.rooms.holds_rightly.Tie as tie
+use Rattle.records.proofs.holds_rightly.Statement.{statement}
+use Rattle.records.proofs.holds_rightly.Tie as tie
 
 is-code-requires : tie.Need-is-code-requires
 is-code-requires c κs = search needs

@@ -1,8 +1,8 @@
 use native.Mathlib.Omega.{arith}
-use Rattle.formed.proofs.rooms.Laws.{standing-past}
+use Rattle.formed.proofs.Laws.{standing-past}
 use borrow.Author.Needs.{needs}
-use Rattle.formed.proofs.rooms.standing_at.Statement.{statement}
-use Rattle.formed.proofs.rooms.standing_at.Tie as tie
+use Rattle.formed.proofs.standing_at.Statement.{statement}
+use Rattle.formed.proofs.standing_at.Tie as tie
 
 mul-result : tie.Need-mul-result
 mul-result c = search needs

@@ -1,7 +1,7 @@
 use borrow.Author.Needs.{needs}
-use Rattle.formed.proofs.rooms.Laws.{standing-free, standing-held}
-use Rattle.formed.proofs.rooms.standing_of.Statement.{statement}
-use Rattle.formed.proofs.rooms.standing_of.Tie as tie
+use Rattle.records.proofs.Laws.{standing-free, standing-held}
+use Rattle.records.proofs.standing_of.Statement.{statement}
+use Rattle.records.proofs.standing_of.Tie as tie
 
 returns : tie.Need-returns
 returns c = search (needs, standing-free)

@@ -1,7 +1,7 @@
 use borrow.Author.Needs.{needs}
-use Rattle.formed.proofs.ranges.Laws.{code-low, code-high}
-use Rattle.formed.proofs.ranges.is_code.Statement.{statement}
-use Rattle.formed.proofs.ranges.is_code.Tie as tie
+use Rattle.modes.proofs.Laws.{code-low, code-high}
+use Rattle.modes.proofs.is_code.Statement.{statement}
+use Rattle.modes.proofs.is_code.Tie as tie
 
 returns : tie.Need-returns
 returns c = search (needs, code-low)

@@ -1,7 +1,7 @@
 use borrow.Author.Needs.{needs}
-use Rattle.formed.proofs.rooms.Laws.{entry-none, entry-past, entry-some, entry-high}
-use Rattle.formed.proofs.rooms.entry_fine.Statement.{statement}
-use Rattle.formed.proofs.rooms.entry_fine.Tie as tie
+use Rattle.records.proofs.Laws.{entry-none, entry-past, entry-some, entry-high}
+use Rattle.records.proofs.entry_fine.Statement.{statement}
+use Rattle.records.proofs.entry_fine.Tie as tie
 
 returns : tie.Need-returns
 returns c = search (needs, entry-none)

@@ -1,7 +1,7 @@
-use Rattle.formed.proofs.rooms.Laws.{blank-held, blank-wanted, blank-token, blank-toward, blank-lender, blank-credit, blank-number, blank-counter, blank-room}
+use Rattle.records.proofs.Laws.{blank-held, blank-wanted, blank-token, blank-toward, blank-lender, blank-credit, blank-number, blank-counter, blank-room}
 use borrow.Author.Needs.{needs}
-use Rattle.formed.proofs.rooms.room_blank.Statement.{statement}
-use Rattle.formed.proofs.rooms.room_blank.Tie as tie
+use Rattle.records.proofs.room_blank.Statement.{statement}
+use Rattle.records.proofs.room_blank.Tie as tie
 
 returns : tie.Need-returns
 returns c = search (needs, blank-held)

@@ -4,22 +4,21 @@ use mathlib.Core.Bool.{Bool, true, false, not, _&&_, _||_, Bool·beq, and-false,
 use mathlib.Core.List.{List}
 use Prim.Native.Nat.{ℕ, _≤_, _<_}
 use native.Mathlib.Omega.{arith}
-use lib.ListN.{length, getD, List·getD-eq-default}
+use lib.ListN.{getD}
 use lib.Dec.{ltb, eqb}
 use borrow.Author.Tests.{le-leb, lt-leb, lt-ltb, le-ltb, eq-eqb, ne-eqb, eqb-true, not-true, not-false}
 use Rattle.base.specs.Choice.{split}
 use Rattle.base.specs.Tests.{_implies_}
 use Rattle.base.specs.Below.{allBelow}
-use Rattle.modes.specs.Codes.{U, W}
+use Rattle.modes.specs.Codes.{U, W, isCode}
 use Rattle.room.specs.declared.Room.{Room}
 use Rattle.room.specs.declared.Entry.{Entry}
 use Rattle.room.specs.Limits.{roomLimit, nobody}
 use Rattle.room.specs.Record.{noEntry, entryAt}
-use Rattle.table.specs.Formed.{isCode, entryFine, isBlankEntry, roomFine, isBlankRoom, due}
-use Rattle.formed.specs.declared.rooms.Standing.{Standing}
-use Rattle.formed.specs.Parts.{holdsRightly, owesRightly, entriesFine, roomPlaceFine}
-use Rattle.formed.specs.Seen.{noStanding, standing, standingAt}
-use Rattle.formed.proofs.Lists.{all-same}
+use Rattle.table.specs.Formed.{entryFine, isBlankEntry, roomFine, isBlankRoom, due}
+use Rattle.records.specs.Parts.{holdsRightly, owesRightly, entriesFine, roomPlaceFine}
+use Rattle.records.specs.Seen.{standing}
+use Rattle.records.proofs.Lists.{all-same}
 
 pub implies-true : (a : Bool) → (a implies true) ≡ true
 implies-true true = refl
@@ -254,7 +253,3 @@ module _ (r : Room) where
   blank-room h w t o l k i u b e =
       simp (h, w, t, o, l, k, i, u)
       (e ∙ all-same 16 (λ j. entryFine 0 0 j (entryAt r j)) (λ j. isBlankEntry (entryAt r j)) (λ j q. blank-entry j (entryAt r j)))
-
--- past the array there is no standing
-pub standing-past : (rooms : List Standing) (c : ℕ) → length rooms ≡ 16 → 16 ≤ c → noStanding ≡ standingAt rooms c
-standing-past rooms c e h = sym (List·getD-eq-default rooms noStanding (rw e h))

@@ -1,8 +1,8 @@
 use borrow.Author.Needs.{needs}
 use native.Mathlib.Omega.{arith}
-use Rattle.formed.proofs.rooms.Laws.{owes-self, owes-high, owes-free, owes-nothing, owes-past, owes-some}
-use Rattle.formed.proofs.rooms.owes_rightly.Statement.{statement}
-use Rattle.formed.proofs.rooms.owes_rightly.Tie as tie
+use Rattle.records.proofs.Laws.{owes-self, owes-high, owes-free, owes-nothing, owes-past, owes-some}
+use Rattle.records.proofs.owes_rightly.Statement.{statement}
+use Rattle.records.proofs.owes_rightly.Tie as tie
 
 returns : tie.Need-returns
 returns c = search (needs, owes-self)
