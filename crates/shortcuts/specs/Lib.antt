@@ -1,0 +1,10 @@
+pub mod Choices
+pub mod Rules
+pub mod Step
+pub mod Same
+pub mod Rests
+pub mod Sessions
+pub mod Ends
+pub mod Forbidden
+pub mod Crossing
+pub mod Owing

@@ -1,0 +1,44 @@
+-- The step with the five places open. The test of well-formedness is left out: no table that the rules lead to from a fresh one fails it.
+use Prim.Native.Nat.{ℕ}
+use mathlib.Core.List.{List, [], _∷_}
+use lib.Dec.{eqb}
+use lib.ListN.{drop}
+use Rattle.base.specs.Choice.{if_then_else_}
+use Rattle.base.specs.Lists.{remove}
+use Rattle.table.specs.declared.Table.{Table}
+use Rattle.table.specs.declared.Answer.{Answer}
+use Rattle.table.specs.declared.Found.{Found}
+use Rattle.table.specs.declared.Found.the-variants as found
+use Rattle.table.specs.Numbers.{DONE, EMPTY}
+use Rattle.table.specs.Tables.{messagesOf, answer}
+use Rattle.table.specs.Oldest.{oldestOf}
+use Rattle.rules.specs.declared.Event.{Event}
+use Rattle.rules.specs.Work.{workAt}
+use Rattle.rules.specs.Rules.{upgrade}
+use Rattle.rules.specs.Events.{isAsk, isUpgrade, isHandBack}
+use Rattle.rules.specs.Refusals.{first, refusals}
+use Rattle.rules.specs.Step.{outcome}
+use Rattle.shortcuts.specs.Choices.{Choices}
+use Rattle.shortcuts.specs.Rules.{askBy, handBackBy, receiveBy}
+
+module _ (c : Choices) where
+  unfoldable pub deliveredBy : Table → ℕ → ℕ → Found → Answer
+  deliveredBy t a b found.Nothing = answer EMPTY t
+  deliveredBy t a b (found.At k m) = outcome t (remove k (messagesOf t)) (receiveBy c (workAt t b) a m)
+
+  unfoldable pub madeBy : Table → Event → Answer
+  madeBy t e =
+      if isAsk e then outcome t (messagesOf t) (askBy c (workAt t (e .room)) (e .mode))
+      else if isUpgrade e then outcome t (messagesOf t) (upgrade (workAt t (e .room)))
+      else if isHandBack e then outcome t (messagesOf t) (handBackBy c (workAt t (e .room)))
+      else deliveredBy t (e .room) (e .other) (oldestOf t (e .room) (e .other))
+
+  -- the first row of the refusals is TABLE
+  unfoldable pub stepBy : Table → Event → Answer
+  stepBy t e =
+      let refusal = first (drop 1 (refusals t e)) in
+      if eqb refusal DONE then madeBy t e else answer refusal t
+
+  unfoldable pub runsBy : Table → List Event → Table
+  runsBy t [] = t
+  runsBy t (e ∷ es) = runsBy (stepBy t e .table) es
