@@ -8,7 +8,7 @@ use native.Mathlib.Omega.{arith}
 use lib.Dec.{ltb}
 use lib.ListN.{length}
 use Rattle.base.specs.Choice.{if_then_else_}
-use Rattle.base.specs.Sums.{one, sum-add, sum-bound, countBelow, count-below-le}
+use Rattle.base.specs.Sums.{one, sum-le, sum-add, sum-bound, countBelow, count-below-le}
 use Rattle.base.specs.Lists.{total, count, Mem}
 use Rattle.room.specs.declared.Room.{Room}
 use Rattle.table.specs.declared.Wire.{Wire}
@@ -20,7 +20,7 @@ use Rattle.facts.specs.Moments.{Formed}
 use Rattle.facts.specs.Names.{isNaming, names-bound}
 use Rattle.bounds.specs.Bounds.{level, isRequest}
 use Rattle.bounds.specs.Weights.{requests, level-le}
-use Rattle.measure.specs.Measure.{pending, tokensIn, charge, follow, extra, pile, nothing, own, load, potential}
+use Rattle.measure.specs.Measure.{pending, tokensIn, charge, follow, holdWeight, above, extra, pile, nothing, own, load, potential}
 
 -- how many messages name a room
 abbrev pub naming : List Wire → ℕ
@@ -57,7 +57,7 @@ charge-most share more cap (msg.Reduce l m) h = omega arith
 pile-most : (height : ℕ → ℕ) (share flag cap : ℕ) (behind : Wire → Bool) (l : List Wire)
     → ((w : Wire) → Mem w l → share + (height (w .to) + flag) ≤ cap + 1)
     → pile height share flag behind l + 3 * requests l ≤ requests l * cap + length l + 3 * naming l
-unfolding pile total
+unfolding pile total above
 pile-most height share flag cap behind [] h = omega arith
 pile-most height share flag cap behind (w ∷ l) h = omega (
   arith,
@@ -66,9 +66,9 @@ pile-most height share flag cap behind (w ∷ l) h = omega (
   add-mul (one (isRequest (w .message))) (requests l) cap,
 )
   where
-    most : (b : Bool) → share + (if b then 0 else height (w .to) + flag) ≤ cap + 1
+    most : (b : Bool) → share + above b (height (w .to)) flag ≤ cap + 1
     most true = omega (arith, h w (List·Memᴰ·head refl))
-    most false = h w (List·Memᴰ·head refl)
+    most false = omega (arith, h w (List·Memᴰ·head refl))
 
 -- the largest cost of a REQUEST, n times
 square : (n : ℕ) → 1 ≤ n → n * (2 * n - 1) + n ≡ 2 * (n * n)
@@ -95,7 +95,8 @@ module _ (n : ℕ) (some : 1 ≤ n) (rooms : ℕ → Room) (queue : List Queued)
     mul-le-mul-right (2 * n - 1) few,
     square n some,
     kinds-all messages,
-    sum-add n (λ c. one (ltb 0 (rooms c .held))) (λ c. level (rooms c .credit)),
+    sum-add n (λ c. holdWeight * one (ltb 0 (rooms c .held))) (λ c. level (rooms c .credit)),
+    sum-le n (λ c. holdWeight * one (ltb 0 (rooms c .held))) (λ c. one (ltb 0 (rooms c .held))) (λ c h. omega arith),
     sum-bound n 2 (λ c. level (rooms c .credit)) (λ c h. level-le (rooms c .credit)),
   )
     where

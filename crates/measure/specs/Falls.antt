@@ -3,7 +3,7 @@ use mathlib.Core.Path.{_≡_, refl, _∙_, ap}
 use mathlib.Core.Logic.{_≢_}
 use mathlib.Core.Bool.{true, false}
 use mathlib.Core.List.{List, [], _∷_, _++_}
-use Prim.Native.Nat.{ℕ, _+_, _≤_, _<_}
+use Prim.Native.Nat.{ℕ, _+_, _*_, _≤_, _<_}
 use native.Mathlib.Omega.{arith}
 use lib.Dec.{ltb}
 use borrow.Author.Tests.{lt-ltb}
@@ -29,7 +29,7 @@ use Rattle.bounds.specs.Bounds.{level, isRequest}
 use Rattle.bounds.specs.Weights.{level-le, level-none, level-falls, requests-sent, requests-taken, requests-leaving}
 use Rattle.measure.specs.Cases.{passed-either, credited-either, reduced-either}
 use Rattle.measure.specs.Way.{rerooted}
-use Rattle.measure.specs.Measure.{pending, tokensIn, charge, follow, nothing, own, load, potential}
+use Rattle.measure.specs.Measure.{pending, tokensIn, charge, follow, holdWeight, nothing, own, load, potential}
 use Rattle.measure.specs.Piles.{pile-flag, pile-append, pile-sent, pile-taken, pile-token-taken}
 use Rattle.measure.specs.Loads.{potential-at, potential-dropped, tokens-sent, tokens-taken, tokens-leaving, leaving-paid, owns}
 
@@ -120,7 +120,7 @@ module _ (n : ℕ) (old new : ℕ → Room) (messages : List Wire) (me : ℕ) (l
     pile-sent height (1 + names) flag nothing messages (wire me (old me .lender) (msg.Reduce (old me .link) (owned (old me)))),
     rooms-differ,
     ap own here,
-    credited-either (old me) (owned (old me)) (λ (r : Room). own r ≡ one (ltb 0 (old me .held)) + level (owned (old me))) refl refl,
+    credited-either (old me) (owned (old me)) (λ (r : Room). own r ≡ holdWeight * one (ltb 0 (old me .held)) + level (owned (old me))) refl refl,
     level-falls (owned (old me)) (old me .credit) small (stronger-true (old me .credit) (owned (old me)) weaker),
   )
 

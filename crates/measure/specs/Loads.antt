@@ -19,7 +19,7 @@ use Rattle.facts.specs.Wires.{wire, leavingSent}
 use Rattle.bounds.specs.Bounds.{level}
 use Rattle.bounds.specs.Weights.{level-falls, requests}
 use Rattle.measure.specs.Cases.{leaving-either}
-use Rattle.measure.specs.Measure.{pending, tokensIn, charge, pile, nothing, own, load, potential}
+use Rattle.measure.specs.Measure.{pending, tokensIn, nameWeight, charge, pile, nothing, own, load, potential}
 use Rattle.measure.specs.Piles.{pile-share}
 
 -- the measure, with its number of names and of TOKENs under other terms
@@ -31,7 +31,7 @@ potential-at n rooms queue messages hand height names flag p q =
 
 -- a name in hand is let go: every REQUEST costs one less
 pub potential-dropped : (n : ℕ) (rooms : ℕ → Room) (queue : List Queued) (messages : List Wire) (hand : ℕ) (height : ℕ → ℕ)
-    → potential n rooms queue messages (hand + 1) height ≡ potential n rooms queue messages hand height + requests messages + 4
+    → potential n rooms queue messages (hand + 1) height ≡ potential n rooms queue messages hand height + requests messages + nameWeight
 unfolding potential load
 potential-dropped n rooms queue messages hand height = omega (
   arith,

@@ -28,7 +28,7 @@ use Rattle.bounds.specs.Bounds.{isRequest}
 use Rattle.bounds.specs.Weights.{requests-sent, requests-taken}
 use Rattle.measure.specs.Way.{passing, Leads}
 use Rattle.measure.specs.Heights.{leads-request-taken}
-use Rattle.measure.specs.Measure.{pending, tokensIn, charge, follow, extra, pile, nothing, load, potential}
+use Rattle.measure.specs.Measure.{pending, tokensIn, charge, follow, above, extra, pile, nothing, load, potential}
 use Rattle.measure.specs.Behind.{behind-there, behind-some}
 use Rattle.measure.specs.Piles.{pile-sent, pile-taken}
 use Rattle.measure.specs.Loads.{potential-at, tokens-sent, tokens-taken}
@@ -82,7 +82,7 @@ module _ (n : ℕ) (rooms : ℕ → Room) (queue : List Queued) (messages : List
     -- it costs its share no more, nor what came on top
     pub potential-request-taken : potential n rooms queue (remove k messages) (hand + 1) height
         + (1 + pending queue messages hand + height b + tokensIn messages) ≡ potential n rooms queue messages hand height
-    unfolding potential load charge isToken
+    unfolding potential load charge isToken above
     potential-request-taken = omega (
       arith,
       potential-at n rooms queue (remove k messages) (hand + 1) height (pending queue messages hand) (tokensIn messages) pending-taken tokens-same,
@@ -99,7 +99,7 @@ module _ (n : ℕ) (rooms : ℕ → Room) (queue : List Queued) (messages : List
     -- to a lower room; or behind the TOKEN that b has sent
     pub potential-request-sent : potential n rooms queue (messages ++ (wire b (rooms b .toward) (msg.Request o m idle) ∷ [])) hand height + 1
         ≤ potential n rooms queue messages (hand + 1) height + (1 + pending queue messages (hand + 1) + height b + tokensIn messages)
-    unfolding potential load charge isToken isRequest
+    unfolding potential load charge isToken isRequest above
     potential-request-sent = split (folds follow nothing messages sent) behind ahead
       where
         names : ℕ
@@ -128,10 +128,10 @@ module _ (n : ℕ) (rooms : ℕ → Room) (queue : List Queued) (messages : List
         behind : folds follow nothing messages sent ≡ true → Lower
         behind e =
             ⊎-elim (λ q. absurd (false≢true q))
-            (λ q. omega (arith, now, weighed, ap (λ (t : Bool). if t then 0 else height (sent .to) + flag) e, q)) (behind-some messages nothing sent e)
+            (λ q. omega (arith, now, weighed, ap (λ (t : Bool). above t (height (sent .to)) flag) e, q)) (behind-some messages nothing sent e)
 
         ahead : folds follow nothing messages sent ≡ false → Lower
-        ahead e = omega (arith, now, weighed, ap (λ (t : Bool). if t then 0 else height (sent .to) + flag) e, leads b low without none)
+        ahead e = omega (arith, now, weighed, ap (λ (t : Bool). above t (height (sent .to)) flag) e, leads b low without none)
           where
             -- a TOKEN of b would be on the way to where b looks
             none : passing b messages ≡ 0

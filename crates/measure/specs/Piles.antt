@@ -24,7 +24,7 @@ use Rattle.bounds.specs.Bounds.{isRequest}
 use Rattle.bounds.specs.Weights.{requests}
 use Rattle.measure.specs.Way.{rerooted}
 use Rattle.measure.specs.Heights.{rerooted-here, rerooted-le}
-use Rattle.measure.specs.Measure.{charge, follow, extra, pile}
+use Rattle.measure.specs.Measure.{charge, follow, above, extra, pile}
 use Rattle.measure.specs.Behind.{follow-other, follow-token, follow-aside}
 
 -- What a message costs.
@@ -63,7 +63,7 @@ module _ (height : ℕ → ℕ) (share flag : ℕ) where
       omega (arith, charge-share share (extra height flag behind w) (w .message), pile-share (follow behind w) l)
 
   pub pile-flag : (behind : Wire → Bool) (l : List Wire) → pile height share (flag + 1) behind l ≤ pile height share flag behind l + requests l
-  unfolding pile total
+  unfolding pile total above
   pile-flag behind [] = omega arith
   pile-flag behind (w ∷ l) = omega (
     arith,
@@ -71,7 +71,7 @@ module _ (height : ℕ → ℕ) (share flag : ℕ) where
     pile-flag (follow behind w) l,
   )
     where
-      raised : (b : Bool) → (if b then 0 else height (w .to) + (flag + 1)) ≤ (if b then 0 else height (w .to) + flag) + 1
+      raised : (b : Bool) → above b (height (w .to)) (flag + 1) ≤ above b (height (w .to)) flag + 1
       raised true = omega arith
       raised false = omega arith
 
@@ -90,7 +90,7 @@ module _ (height : ℕ → ℕ) (share flag : ℕ) where
   -- the oldest message of its wire is taken off: nothing stands behind it for that
   pub pile-taken : (l : List Wire) (behind : Wire → Bool) (k a y : ℕ) (m : Message) → k < length l → getD l k noWire ≡ wire a y m
       → isToken m ≡ false → behind (wire a y m) ≡ false → ((j : ℕ) → j < k → between a y (getD l j noWire) ≡ false)
-      → pile height share flag behind (remove k l) + charge share (height y + flag) m ≡ pile height share flag behind l
+      → pile height share flag behind (remove k l) + charge share (above false (height y) flag) m ≡ pile height share flag behind l
   unfolding pile remove
   pile-taken [] behind k a y m low there other free first = absurd (not-suc-le-zero low)
   pile-taken (w ∷ l) behind zero a y m low there other free first =
@@ -108,9 +108,10 @@ module _ (height : ℕ → ℕ) (share me : ℕ) where
   Freed less more = (w : Wire) → more w ≡ true → (less w ≡ true) ⊎ (w .to ≡ me)
 
   extra-lowered : (less more : Wire → Bool) (w : Wire) → Freed less more → extra (rerooted me height) 0 less w ≤ extra height 1 more w
+  unfolding above
   extra-lowered less more w freed = split (less w) (λ e. rw e (omega arith)) (λ e. rw e (go e (more w) refl))
     where
-      go : less w ≡ false → (b : Bool) → more w ≡ b → rerooted me height (w .to) + 0 ≤ (if b then 0 else height (w .to) + 1)
+      go : less w ≡ false → (b : Bool) → more w ≡ b → above false (rerooted me height (w .to)) 0 ≤ above b (height (w .to)) 1
       go e true q =
           ⊎-elim (λ h. clash h e) (λ h. omega (arith, ap (λ (c : ℕ). rerooted me height c) h, rerooted-here me height)) (freed w q)
       go e false q = omega (arith, rerooted-le me height (w .to))
