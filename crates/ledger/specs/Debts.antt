@@ -108,7 +108,11 @@ module _ (r : Room) (p : ℕ) where
   unfolding debt
   debt-none h = simp (ne-eqb (r .lender) p h)
 
--- a REDUCE lowers no entry, nor one under another link number
+-- a REDUCE leaves an entry under another link number, and no entry
+pub flush-other : (e : Entry) (l m : ℕ) → e .link ≢ l → flush e (msg.Reduce l m) ≡ e
+unfolding flush
+flush-other e l m h = simp (ne-eqb (e .link) l h)
+
 pub flush-none : (l m : ℕ) → flush noEntry (msg.Reduce l m) ≡ noEntry
 unfolding flush isStronger
 flush-none l m = simp (le-ltb m 0 (omega arith), and-false)

@@ -23,7 +23,7 @@ use Rattle.table.specs.Tables.{noWire}
 use Rattle.table.specs.Oldest.{between}
 use Rattle.table.specs.Formed.{isToken}
 use Rattle.facts.specs.Wires.{wire}
-use Rattle.ledger.specs.Links.{Sender}
+use Rattle.ledger.specs.Links.{Along, Sender}
 use Rattle.ledger.specs.Frames.{same-wire, sender-is, receiver-is}
 use Rattle.ledger.specs.Takes.{Oldest}
 
@@ -97,9 +97,7 @@ module _ (old new : ℕ → Room) (messages : List Wire) (sender : Sender old me
       }
 
   -- a message more that is no TOKEN, and if a REQUEST then not of the TOKEN's sender, or on its wire
-  module _ (x : Wire) (no : isToken (x .message) ≡ false)
-      (fits : (w : Wire) → Mem w messages → (m rest l : ℕ) → w .message ≡ msg.Token m rest l → (o k : ℕ) (idle : Bool)
-      → x .message ≡ msg.Request o k idle → o ≡ w .«from» → between (w .«from») (w .to) x ≡ true) where
+  module _ (x : Wire) (no : isToken (x .message) ≡ false) (fits : (w : Wire) → Mem w messages → Along w x) where
     long : length (messages ++ (x ∷ [])) ≡ length messages + 1
     long = length-append messages (x ∷ [])
 
