@@ -8,7 +8,7 @@ use native.Mathlib.Omega.{arith}
 use lib.ListN.{length}
 use Rattle.base.specs.Sums.{same?}
 use Rattle.base.specs.Lists.{Mem, remove, mem-remove}
-use Rattle.modes.specs.Codes.{none, IR}
+use Rattle.modes.specs.Codes.{IR}
 use Rattle.modes.specs.Modes.{canLend}
 use Rattle.modes.proofs.Laws.{low-small}
 use Rattle.room.specs.declared.Room.{Room}
