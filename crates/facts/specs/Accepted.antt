@@ -6,7 +6,7 @@ use mathlib.Core.List.{List, _∷_}
 use Prim.Native.Nat.{ℕ, _≤_, _<_}
 use native.Mathlib.Omega.{arith}
 use lib.Dec.{ltb, leb, eqb}
-use borrow.Author.Tests.{ltb-true, leb-true, leb-false, eqb-true, not-false}
+use borrow.Author.Tests.{ltb-true, leb-true, leb-false, eqb-true, eqb-false, not-false}
 use Rattle.base.specs.Tests.{and-left, and-right}
 use Rattle.base.specs.Below.{all-at}
 use Rattle.modes.specs.Codes.{IR, U, W}
@@ -59,6 +59,7 @@ pub record Accepted (t : Table) (e : Event) : Type 0 where
   -- 6 HELD
   pub free : isAsk e ≡ true → roomAt t (e .room) .held ≡ 0
   -- 7 NOT HELD
+  pub had : isHandBack e ≡ true → roomAt t (e .room) .held ≢ 0
   pub holds : isUpgrade e ≡ true → roomAt t (e .room) .held ≡ U
   -- 8 EMPTY
   pub found : isDeliver e ≡ true → oldestOf t (e .room) (e .other) ≢ found.Nothing
@@ -91,6 +92,7 @@ accepted t e h =
       idle = λ a. eqb-true _ _ (not-false _ (rw a at (five .0)));
       free = λ a. eqb-true _ _ (not-false _ (rw a at (six .0)));
       holds = λ a. eqb-true _ _ (not-false _ (rw a at (or-false-right (isHandBack e && eqb (roomAt t (e .room) .held) 0) _ (seven .0))));
+      had = λ a. eqb-false _ _ (rw a at (or-false-left (isHandBack e && eqb (roomAt t (e .room) .held) 0) _ (seven .0)));
       few = λ a. leb-false _ _ (rw a at (nine .0));
       unworn = λ a. all-unworn t (rw a at (ten .0));
     }

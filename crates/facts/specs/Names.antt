@@ -58,16 +58,19 @@ module _ (n : ℕ) (rooms : ℕ → Room) (queue : List Queued) (messages : List
   unfolding names
   queued-once c h = omega (arith, named-once c h)
 
-  -- "REQUESTs, GRANTs and TOKENs" and the queue: one for each room at most
-  pub names-bound : length queue + count (λ w. isNaming (w .message)) messages ≤ n
+  -- all names, counted room by room
+  pub names-sum : sum n (names queue messages) ≡ length queue + count (λ w. isNaming (w .message)) messages
   unfolding names
-  names-bound = omega (
+  names-sum = omega (
     arith,
     queue-sum,
     message-sum,
     sum-add n (λ c. count (λ q. eqb (q .room) c) queue) (λ c. count (λ w. isNamedIn c (w .to) (w .message)) messages),
-    sum-bound n 1 (names queue messages) named-once,
   )
+
+  -- "REQUESTs, GRANTs and TOKENs" and the queue: one for each room at most
+  pub names-bound : length queue + count (λ w. isNaming (w .message)) messages ≤ n
+  names-bound = omega (arith, names-sum, sum-bound n 1 (names queue messages) named-once)
 
   pub queue-bound : length queue ≤ n
   queue-bound = omega (arith, names-bound)
@@ -78,11 +81,4 @@ module _ (n : ℕ) (rooms : ℕ → Room) (queue : List Queued) (messages : List
 
   -- and so does a room that is named by nothing, with room for one more name
   pub names-room : (c : ℕ) → c < n → names queue messages c ≡ 0 → length queue + count (λ w. isNaming (w .message)) messages < n
-  unfolding names
-  names-room c h z = omega (
-    arith,
-    queue-sum,
-    message-sum,
-    sum-add n (λ c. count (λ q. eqb (q .room) c) queue) (λ c. count (λ w. isNamedIn c (w .to) (w .message)) messages),
-    sum-short n (names queue messages) c h named-once z,
-  )
+  names-room c h z = omega (arith, names-sum, sum-short n (names queue messages) c h named-once z)

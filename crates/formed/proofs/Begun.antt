@@ -15,15 +15,17 @@ use Rattle.room.specs.declared.Room.{Room}
 use Rattle.table.specs.declared.Table.{Table}
 use Rattle.table.specs.Tables.{noQueued, roomAt, queuedAt, queueOf, messagesOf}
 use Rattle.table.specs.Formed.{sizesFit, roomsFine, isBlankRoom, queueFine, queuedFine, isBlankQueued, wellFormed}
-use Rattle.formed.specs.declared.rooms.Seen.{Seen}
+use Rattle.records.specs.declared.Seen.{Seen}
 use Rattle.formed.specs.declared.queue.Named.{Named}
-use Rattle.formed.specs.Listed.{listed}
-use Rattle.formed.specs.Parts.{roomPlaceFine}
-use Rattle.formed.specs.Seen.{noStanding, standing, seenIn}
-use Rattle.formed.specs.Names.{queuePlaceFine, namedIn}
-use Rattle.formed.proofs.Lists.{length-listed, listed-at, all-same, count-past}
+use Rattle.records.specs.Listed.{listed}
+use Rattle.records.specs.Parts.{roomPlaceFine}
+use Rattle.records.specs.Seen.{noStanding, standing, seenIn}
+use Rattle.formed.specs.Parts.{queuePlaceFine}
+use Rattle.formed.specs.Names.{namedIn}
+use Rattle.records.proofs.Lists.{length-listed, listed-at, all-same}
+use Rattle.records.proofs.Laws.{blank-token}
+use Rattle.formed.proofs.Lists.{count-past}
 use Rattle.formed.proofs.Counted.{Counted}
-use Rattle.formed.proofs.rooms.Laws.{blank-token}
 use Rattle.formed.proofs.Looked.{inPlace, inMessage, withToken, namesBy, tokensBy, Known, Looked, fit-rooms, queue-test, ill-rooms, ill-queue}
 
 -- a blank room has no token

@@ -1,17 +1,22 @@
 -- A law for each branch of the functions at the crate's root, over plain values.
-use mathlib.Core.Path.{_≡_, refl}
+use mathlib.Core.Path.{_≡_, refl, sym}
 use mathlib.Core.Bool.{Bool, true, false}
 use mathlib.Core.List.{List}
-use Prim.Native.Nat.{ℕ}
+use Prim.Native.Nat.{ℕ, _≤_}
 use native.Mathlib.Omega.{arith}
-use lib.ListN.{getD}
+use lib.ListN.{length, getD, List·getD-eq-default}
 use lib.Dec.{ltb, eqb}
 use borrow.Author.Tests.{lt-ltb, eq-eqb, ne-eqb}
 use Rattle.base.specs.Below.{allBelow}
 use Rattle.base.specs.Sums.{one}
-use Rattle.formed.specs.declared.rooms.Standing.{Standing}
-use Rattle.formed.specs.Seen.{standingAt}
+use Rattle.records.specs.declared.Standing.{Standing}
+use Rattle.records.specs.Seen.{noStanding}
+use Rattle.formed.specs.Standings.{standingAt}
 use Rattle.formed.specs.Names.{timesFine}
+
+-- past the array there is no standing
+pub standing-past : (rooms : List Standing) (c : ℕ) → length rooms ≡ 16 → 16 ≤ c → noStanding ≡ standingAt rooms c
+standing-past rooms c e h = sym (List·getD-eq-default rooms noStanding (rw e h))
 
 module _ (due : ℕ) where
   pub due-none : due ≡ 0 → 0 ≡ one (ltb 0 due)

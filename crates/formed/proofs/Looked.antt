@@ -17,11 +17,14 @@ use Rattle.table.specs.declared.Queued.{Queued}
 use Rattle.table.specs.declared.Wire.{Wire}
 use Rattle.table.specs.Tables.{noWire, roomAt, queuedAt, wireAt, queueOf, messagesOf}
 use Rattle.table.specs.Formed.{sizesFit, roomsFine, due, queueFine, queuedFine, isBlankQueued, wiresFine, wireFine, isBlankWire, tokens, isToken, names, isNamedIn, namesFine, wellFormed}
-use Rattle.formed.specs.declared.rooms.Standing.{Standing}
+use Rattle.records.specs.declared.Standing.{Standing}
 use Rattle.formed.specs.declared.wires.Carried.{Carried}
-use Rattle.formed.specs.Seen.{standing, standingAt, roomsOf}
-use Rattle.formed.specs.Names.{queuePlaceFine, wirePlaceFine, carriedBy, timesFine}
-use Rattle.formed.proofs.Lists.{all-same, prefix-low, prefix-all, prefix-next}
+use Rattle.records.specs.Seen.{standing}
+use Rattle.formed.specs.Standings.{standingAt, roomsOf}
+use Rattle.formed.specs.Parts.{queuePlaceFine, wirePlaceFine}
+use Rattle.formed.specs.Names.{carriedBy, timesFine}
+use Rattle.records.proofs.Lists.{all-same}
+use Rattle.formed.proofs.Lists.{prefix-low, prefix-all, prefix-next}
 use Rattle.formed.proofs.Counted.{Counted}
 use Rattle.formed.proofs.Same.{queued-same, wire-same, named-is, tokens-are, blank-token, blank-name}
 

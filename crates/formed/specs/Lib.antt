@@ -1,4 +1,3 @@
-pub mod Listed
+pub mod Standings
 pub mod Parts
-pub mod Seen
 pub mod Names

@@ -10,24 +10,16 @@ use Rattle.base.specs.Sums.{one}
 use Rattle.base.specs.Lists.{count}
 use Rattle.room.specs.Limits.{roomLimit}
 use Rattle.table.specs.declared.Queued.{Queued}
-use Rattle.table.specs.declared.Wire.{Wire}
 use Rattle.table.specs.declared.Message.{Message}
 use Rattle.table.specs.declared.Message.the-variants as msg
 use Rattle.table.specs.Limits.{queueLimit}
 use Rattle.table.specs.Tables.{noQueued}
-use Rattle.table.specs.Formed.{queuedFine, isBlankQueued, wireFine, isBlankWire}
-use Rattle.formed.specs.declared.rooms.Standing.{Standing}
+use Rattle.records.specs.declared.Standing.{Standing}
 use Rattle.formed.specs.declared.queue.Named.{Named}
 use Rattle.formed.specs.declared.wires.Carried.{Carried}
-use Rattle.formed.specs.Listed.{listed}
-use Rattle.formed.specs.Seen.{standingAt, roomsOf}
-
--- a place of the queue, and a wire: as it should be where it is in use, else blank
-unfoldable pub queuePlaceFine : ℕ → List Standing → Bool → Queued → Bool
-queuePlaceFine n rooms used q = if used then queuedFine n (roomsOf rooms) q else isBlankQueued q
-
-unfoldable pub wirePlaceFine : ℕ → List Standing → Bool → Wire → Bool
-wirePlaceFine n rooms used w = if used then wireFine n (roomsOf rooms) w else isBlankWire w
+use Rattle.records.specs.Listed.{listed}
+use Rattle.formed.specs.Standings.{standingAt}
+use Rattle.formed.specs.Parts.{queuePlaceFine}
 
 -- how often an array of places, of which the first `queued` are in use, names each room; where one is not fine, no more than that
 unfoldable pub namedIn : ℕ → List Standing → List Queued → ℕ → Named

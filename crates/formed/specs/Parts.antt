@@ -1,40 +1,23 @@
--- Parts of the tests of rooms and messages that have a function each.
+-- Parts of the tests of the queue and the messages that have a function each.
 use Prim.Native.Nat.{ℕ}
-use mathlib.Core.Bool.{Bool, not, _&&_, _||_, Bool·beq}
+use mathlib.Core.Bool.{Bool, _||_}
 use mathlib.Core.List.{List}
-use lib.ListN.{getD}
-use lib.Dec.{ltb, eqb}
+use lib.Dec.{eqb}
 use Rattle.base.specs.Choice.{if_then_else_}
-use Rattle.base.specs.Tests.{_implies_}
-use Rattle.base.specs.Below.{allBelow}
-use Rattle.modes.specs.Codes.{IR, R, U, IW, W}
-use Rattle.room.specs.declared.Room.{Room}
-use Rattle.room.specs.declared.Entry.{Entry}
-use Rattle.room.specs.Limits.{roomLimit, nobody}
-use Rattle.room.specs.Record.{noEntry}
-use Rattle.table.specs.Formed.{isCode, entryFine, roomFine, isBlankRoom}
+use Rattle.modes.specs.Codes.{IR, R, IW}
+use Rattle.table.specs.declared.Queued.{Queued}
+use Rattle.table.specs.declared.Wire.{Wire}
+use Rattle.table.specs.Formed.{queuedFine, isBlankQueued, wireFine, isBlankWire}
+use Rattle.records.specs.declared.Standing.{Standing}
+use Rattle.formed.specs.Standings.{roomsOf}
 
 -- "GRANT modes only IR, R, IW"
 unfoldable pub isGranted : ℕ → Bool
 isGranted m = eqb m IR || eqb m R || eqb m IW
 
--- what `roomFine` says of the held and the wanted mode
-unfoldable pub holdsRightly : ℕ → ℕ → Bool → Bool
-holdsRightly held wanted token =
-    isCode held && isCode wanted && ((eqb held U || eqb held W) implies token)
-    && (eqb held 0 || eqb wanted 0 || eqb held U && eqb wanted W)
+-- a place of the queue, and a wire: as it should be where it is in use, else blank
+unfoldable pub queuePlaceFine : ℕ → List Standing → Bool → Queued → Bool
+queuePlaceFine n rooms used q = if used then queuedFine n (roomsOf rooms) q else isBlankQueued q
 
--- what it says of the lender, the credit and the link number
-unfoldable pub owesRightly : ℕ → ℕ → Room → Bool
-owesRightly n c r =
-    isCode (r .credit) && (eqb (r .lender) nobody || ltb (r .lender) n) && not (eqb (r .lender) c)
-    && (eqb (r .lender) nobody implies eqb (r .link) 0) && Bool·beq (eqb (r .lender) nobody) (eqb (r .credit) 0)
-    && (r .token implies eqb (r .lender) nobody)
-
--- what it says of the entries
-unfoldable pub entriesFine : ℕ → ℕ → List Entry → Bool
-entriesFine n c entries = allBelow roomLimit (λ j. entryFine n c j (getD entries j noEntry))
-
--- the record at place c of the array: as it should be where the place is in use, else blank
-unfoldable pub roomPlaceFine : ℕ → ℕ → Room → Bool
-roomPlaceFine n c r = if ltb c n then roomFine n c r else isBlankRoom r
+unfoldable pub wirePlaceFine : ℕ → List Standing → Bool → Wire → Bool
+wirePlaceFine n rooms used w = if used then wireFine n (roomsOf rooms) w else isBlankWire w

@@ -5,17 +5,31 @@ ghost use lib.Dec.{ltb};
 ghost use Rattle.base.specs.Sums.{one};
 ghost use Rattle.room.specs.Limits.{roomLimit};
 ghost use Rattle.table.specs.Formed.{wellFormed};
+ghost use Rattle.formed.specs.Standings.{standingAt};
 ghost use Rattle.formed.specs.Names.{timesFine};
 
 mod queue; // queue.rt: the places of the queue
-mod ranges; // ranges.rt: codes and sizes in range
-mod rooms; // rooms.rt: the rooms' records
+mod ranges; // ranges.rt: modes and sizes in range
 mod wires; // wires.rt: the messages
 
+use records::Standing;
 use room::ROOMS;
-use rooms::Standing;
 use table::Table;
 use table::WIRES;
+
+// The standing of room c; none where there is no such room.
+fn standing_at(rooms: [Standing; ROOMS], c: u8) -> Standing
+    ensures { λ s. ⌜ s ≡ standingAt rooms c ⌝ }
+{
+    let at = c as usize;
+    if at < ROOMS {
+        return rooms[at];
+    }
+    Standing {
+        due: 0,
+        token: false,
+    }
+}
 
 // How often a room is to be named that waits for this mode.
 fn times_due(due: u8) -> usize
@@ -53,8 +67,8 @@ pub fn well_formed(t: Table) -> bool
     if !ranges::sizes_fit(n, queued, count) {
         return false;
     }
-    let records = t.rooms;
-    let seen = rooms::look_over(n, records);
+    let rooms = t.rooms;
+    let seen = records::look_over(n, rooms);
     if !seen.fine {
         return false;
     }

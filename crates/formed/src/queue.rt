@@ -1,10 +1,11 @@
 // The places of the queue: each names a waiting room, or is blank.
 ghost use mathlib.Core.Path.{_≡_};
-ghost use Rattle.formed.specs.Names.{queuePlaceFine, namedIn};
+ghost use Rattle.formed.specs.Parts.{queuePlaceFine};
+ghost use Rattle.formed.specs.Names.{namedIn};
 use super::ranges::is_mode;
-use super::rooms::Standing;
-use super::rooms::standing_at;
+use super::standing_at;
 use modes::NONE;
+use records::Standing;
 use room::ROOMS;
 use table::QUEUE;
 use table::Queued;

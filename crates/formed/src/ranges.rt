@@ -1,6 +1,6 @@
 // "n, codes, counts and room numbers in range"
 ghost use mathlib.Core.Path.{_≡_};
-ghost use Rattle.table.specs.Formed.{isCode, isMode, sizesFit};
+ghost use Rattle.table.specs.Formed.{isMode, sizesFit};
 ghost use Rattle.formed.specs.Parts.{isGranted};
 use modes::IR;
 use modes::IW;
@@ -11,16 +11,6 @@ use modes::W;
 use room::MOST_ROOMS;
 use table::QUEUE;
 use table::WIRES;
-
-// Whether a number is a mode's code.
-pub fn is_code(m: u8) -> bool
-    ensures { λ b. ⌜ b ≡ isCode m ⌝ }
-{
-    match m {
-        NONE..=W => true,
-        6..=255 => false,
-    }
-}
 
 // Whether a number is the code of a mode that is not none.
 pub fn is_mode(m: u8) -> bool

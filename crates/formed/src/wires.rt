@@ -1,13 +1,14 @@
 // The messages: what each holds and names, and wires that are blank.
 ghost use mathlib.Core.Path.{_≡_};
 ghost use Rattle.table.specs.Formed.{messageFine, namesRightly, isBlankWire};
-ghost use Rattle.formed.specs.Seen.{roomsOf};
-ghost use Rattle.formed.specs.Names.{wirePlaceFine, carriedBy};
-use super::ranges::is_code;
+ghost use Rattle.formed.specs.Standings.{roomsOf};
+ghost use Rattle.formed.specs.Parts.{wirePlaceFine};
+ghost use Rattle.formed.specs.Names.{carriedBy};
 use super::ranges::is_granted;
 use super::ranges::is_mode;
-use super::rooms::Standing;
-use super::rooms::standing_at;
+use super::standing_at;
+use modes::is_code;
+use records::Standing;
 use room::ROOMS;
 use table::Message;
 use table::Wire;

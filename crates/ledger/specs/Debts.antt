@@ -1,5 +1,5 @@
 -- What a room owes once all is delivered: what its record says, or what the last GRANT or TOKEN under way to it says.
-use mathlib.Core.Path.{_≡_, refl, sym, _∙_, ap}
+use mathlib.Core.Path.{_≡_, refl, sym, _∙_}
 use mathlib.Core.Logic.{_≢_, _⊎_, inl, inr}
 use mathlib.Core.Bool.{Bool, true, false, true≢false, and-false}
 use mathlib.Core.List.{List, [], _∷_, List·Memᴰ·head, List·Memᴰ·tail}
@@ -108,7 +108,11 @@ module _ (r : Room) (p : ℕ) where
   unfolding debt
   debt-none h = simp (ne-eqb (r .lender) p h)
 
--- a REDUCE lowers no entry, nor one under another link number
+-- a REDUCE leaves an entry under another link number, and no entry
+pub flush-other : (e : Entry) (l m : ℕ) → e .link ≢ l → flush e (msg.Reduce l m) ≡ e
+unfolding flush
+flush-other e l m h = simp (ne-eqb (e .link) l h)
+
 pub flush-none : (l m : ℕ) → flush noEntry (msg.Reduce l m) ≡ noEntry
 unfolding flush isStronger
 flush-none l m = simp (le-ltb m 0 (omega arith), and-false)

@@ -8,7 +8,7 @@ use native.Mathlib.Omega.{arith}
 use lib.Dec.{eqb}
 use lib.ListN.{length}
 use lib.Seq.{getD-set-same, getD-set-other}
-use borrow.Author.Tests.{lt-ltb, eq-eqb, ne-eqb, eqb-true, eqb-false}
+use borrow.Author.Tests.{lt-ltb, eq-eqb, ne-eqb}
 use Rattle.base.specs.Choice.{by-test, split}
 use Rattle.base.specs.Sums.{same?}
 use Rattle.base.specs.Lists.{Mem}
@@ -17,7 +17,7 @@ use Rattle.modes.specs.Modes.{isStronger}
 use Rattle.room.specs.declared.Room.{Room}
 use Rattle.room.specs.declared.Entry.{Entry}
 use Rattle.room.specs.Limits.{roomLimit, nobody}
-use Rattle.room.specs.Record.{noEntry, entryOf, entryAt, withDebt, setEntry}
+use Rattle.room.specs.Record.{noEntry, entryOf, entryAt, withDebt}
 use Rattle.room.specs.Rules.{nextLink, lentTo, credited}
 use Rattle.table.specs.declared.Wire.{Wire}
 use Rattle.table.specs.declared.Message.{Message}
@@ -29,7 +29,7 @@ use Rattle.ledger.specs.Loans.{flush, owe, arriving, debt, flushed, owed
 use Rattle.ledger.specs.Links.{Links}
 use Rattle.ledger.specs.Arrivals.{arriving-other, arriving-this, more}
 use Rattle.ledger.specs.Frames.{alike, other-sender, other-receiver, same-wire, sender-is, receiver-is, still}
-use Rattle.ledger.specs.Debts.{isSetting, says, Set, owes, debt-here, debt-none, flush-none}
+use Rattle.ledger.specs.Debts.{isSetting, says, Set, owes, debt-here, debt-none, flush-other, flush-none}
 
 -- A pair of rooms whose entry and debt are as they were, and a message that neither fold minds
 module _ (old new : ℕ → Room) (messages : List Wire) (w : Wire) (p c : ℕ) where
@@ -74,7 +74,7 @@ module _ (n : ℕ) (old new : ℕ → Room) (messages : List Wire) (me : ℕ) (o
     stays (msg.Request o k idle) t h = refl
     stays (msg.Grant k l) t h = refl
     stays (msg.Token k rest l) t h = absurd (true≢false t)
-    stays (msg.Reduce l k) t h = simp (ne-eqb link l (λ e. omega (arith, h l k refl)))
+    stays (msg.Reduce l k) t h = flush-other loan l k (λ e. omega (arith, h l k refl))
 
     entry-stays : folds (arriving flush y me) loan messages ≡ loan
     entry-stays =
@@ -151,7 +151,7 @@ module _ (n : ℕ) (old new : ℕ → Room) (messages : List Wire) (me : ℕ) (o
     unfolding isSetting owe flush
     newer w i b msg.Nothing e s = absurd (true≢false (sym s))
     newer w i b (msg.Request o k idle) e s = absurd (true≢false (sym s))
-    newer w i b (msg.Grant k l) e s = simp (ne-eqb l (old me .link) differ)
+    newer w i b (msg.Grant k l) e s = flush-other (record { mode = k; link = l }) (old me .link) m differ
       where
         to : w .to ≡ me
         to = receiver-is lender me w b

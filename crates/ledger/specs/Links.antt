@@ -37,13 +37,18 @@ pub record Links (n : ℕ) (rooms : ℕ → Room) (messages : List Wire) : Type 
   pub grant : (w : Wire) → Mem w messages → (m l : ℕ) → w .message ≡ msg.Grant m l → l ≤ rooms (w .«from») .counter
   pub differs : (w : Wire) → Mem w messages → (m l : ℕ) → w .message ≡ msg.Grant m l → rooms (w .to) .lender ≡ w .«from» → l ≢ rooms (w .to) .link
 
+-- a TOKEN and a REQUEST begun by its sender are on one wire
+abbrev pub Along : Wire → Wire → Type 0
+Along w v =
+    (m rest l : ℕ) → w .message ≡ msg.Token m rest l
+    → (o k : ℕ) (idle : Bool) → v .message ≡ msg.Request o k idle → o ≡ w .«from» → between (w .«from») (w .to) v ≡ true
+
 -- SENDER: a TOKEN under way
 pub record Sender (rooms : ℕ → Room) (messages : List Wire) : Type 0 where
   -- its sender looks toward its receiver, and has counted to its link number
   pub toward : (w : Wire) → Mem w messages → (m rest l : ℕ) → w .message ≡ msg.Token m rest l → rooms (w .«from») .toward ≡ w .to
   pub counted : (w : Wire) → Mem w messages → (m rest l : ℕ) → w .message ≡ msg.Token m rest l → l ≤ rooms (w .«from») .counter
   -- a REQUEST begun by its sender is on its wire, behind it
-  pub along : (w v : Wire) → Mem w messages → Mem v messages → (m rest l : ℕ) → w .message ≡ msg.Token m rest l
-      → (o k : ℕ) (idle : Bool) → v .message ≡ msg.Request o k idle → o ≡ w .«from» → between (w .«from») (w .to) v ≡ true
+  pub along : (w v : Wire) → Mem w messages → Mem v messages → Along w v
   pub behind : (i j : ℕ) → i < length messages → j < length messages → (m rest l : ℕ) → getD messages i noWire .message ≡ msg.Token m rest l
       → (o k : ℕ) (idle : Bool) → getD messages j noWire .message ≡ msg.Request o k idle → o ≡ getD messages i noWire .«from» → i < j

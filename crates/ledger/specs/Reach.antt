@@ -1,5 +1,5 @@
 -- How far a lender's counter reaches: it is at least where it stands, and never falls.
-use mathlib.Core.Path.{_≡_, refl, sym, _∙_, ap}
+use mathlib.Core.Path.{_≡_, refl, _∙_}
 use mathlib.Core.Bool.{true, false, true≢false}
 use mathlib.Core.List.{List, [], _∷_, _++_}
 use Prim.Native.Nat.{ℕ, _≤_}
@@ -36,7 +36,7 @@ unfolding lift
 lift-up msg.Nothing k = omega arith
 lift-up (msg.Request o m idle) k = omega arith
 lift-up (msg.Grant m l) k = omega arith
-lift-up (msg.Token m rest l) k = lifted-own k l
+lift-up (msg.Token m rest l) k = omega (arith, lifted-own k l)
 lift-up (msg.Reduce l m) k = omega arith
 
 lift-more : (m : Message) (j k : ℕ) → j ≤ k → lift j m ≤ lift k m
@@ -44,7 +44,7 @@ unfolding lift
 lift-more msg.Nothing j k h = h
 lift-more (msg.Request o m idle) j k h = h
 lift-more (msg.Grant m l) j k h = h
-lift-more (msg.Token m rest l) j k h = lifted-below j l (lifted k l) (omega (arith, lifted-own k l)) (lifted-link k l)
+lift-more (msg.Token m rest l) j k h = omega (arith, lifted-below j l (lifted k l) (omega (arith, lifted-own k l)) (lifted-link k l))
 lift-more (msg.Reduce l m) j k h = h
 
 pub lift-still : (m : Message) → isToken m ≡ false → (k : ℕ) → lift k m ≡ k

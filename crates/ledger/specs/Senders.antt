@@ -1,7 +1,7 @@
 -- SENDER is kept by each change: messages keep their order, the sender of a TOKEN asks behind it, and no counter falls.
 use mathlib.Core.Path.{_≡_, refl, sym, _∙_, ap}
 use mathlib.Core.Logic.{_≢_, _⊎_, inl, inr, ⊎-elim}
-use mathlib.Core.Bool.{Bool, true, false, true≢false}
+use mathlib.Core.Bool.{Bool, true, false}
 use mathlib.Core.List.{List, [], _∷_, _++_}
 use Prim.Native.Nat.{ℕ, zero, suc, _+_, _≤_, _<_}
 use native.Mathlib.Nat.{not-suc-le-zero, le-of-suc-le-suc}
@@ -11,8 +11,8 @@ use lib.Seq.{getD-at}
 use lib.Dec.{eqb}
 use Rattle.base.specs.Choice.{by-test}
 use Rattle.base.specs.Tests.{clash}
-use Rattle.base.specs.Sums.{same?, below?}
-use Rattle.base.specs.Lists.{Mem, mem-at, mem-place, mem-snoc, remove, length-remove, mem-remove}
+use Rattle.base.specs.Sums.{below?}
+use Rattle.base.specs.Lists.{Mem, mem-at, mem-place, mem-snoc, remove, mem-remove}
 use Rattle.room.specs.declared.Room.{Room}
 use Rattle.room.specs.Record.{withDebt}
 use Rattle.room.specs.Rules.{nextLink, left, remaining, passedTo}
@@ -23,7 +23,7 @@ use Rattle.table.specs.Tables.{noWire}
 use Rattle.table.specs.Oldest.{between}
 use Rattle.table.specs.Formed.{isToken}
 use Rattle.facts.specs.Wires.{wire}
-use Rattle.ledger.specs.Links.{Sender}
+use Rattle.ledger.specs.Links.{Along, Sender}
 use Rattle.ledger.specs.Frames.{same-wire, sender-is, receiver-is}
 use Rattle.ledger.specs.Takes.{Oldest}
 
@@ -97,9 +97,7 @@ module _ (old new : ℕ → Room) (messages : List Wire) (sender : Sender old me
       }
 
   -- a message more that is no TOKEN, and if a REQUEST then not of the TOKEN's sender, or on its wire
-  module _ (x : Wire) (no : isToken (x .message) ≡ false)
-      (fits : (w : Wire) → Mem w messages → (m rest l : ℕ) → w .message ≡ msg.Token m rest l → (o k : ℕ) (idle : Bool)
-      → x .message ≡ msg.Request o k idle → o ≡ w .«from» → between (w .«from») (w .to) x ≡ true) where
+  module _ (x : Wire) (no : isToken (x .message) ≡ false) (fits : (w : Wire) → Mem w messages → Along w x) where
     long : length (messages ++ (x ∷ [])) ≡ length messages + 1
     long = length-append messages (x ∷ [])
 

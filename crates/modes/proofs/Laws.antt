@@ -11,7 +11,7 @@ use borrow.Author.Tests.{ltb-true, ltb-false, leb-true, eqb-true, not-true, lt-l
 use Rattle.base.specs.Choice.{split}
 use Rattle.base.specs.Tests.{_implies_, and-left, and-right, and-both, implies-use, implies-show, same-use, or-use, clash}
 use Rattle.base.specs.Below.{allBelow, allPairs, allTriples, all-at, all-of, pairs-at, triples-at}
-use Rattle.modes.specs.Codes.{none, IR, R, IW, W, codes}
+use Rattle.modes.specs.Codes.{none, IR, R, IW, W, codes, isCode}
 use Rattle.modes.specs.Modes.{rows, agrees, isStronger, canLend, loans, isListed, lendList}
 use Rattle.modes.specs.Under.{under, small}
 
@@ -40,6 +40,15 @@ same-pairs p q t p-codes q-codes a b =
   where
     inside : (a < 6) × (b < 6) → p a b ≡ q a b
     inside c = same-use (p a b) (q a b) (pairs-at codes (λ a b. Bool·beq (p a b) (q a b)) t a b (c .0) (c .1))
+
+-- Codes
+
+module _ (m : ℕ) where
+  pub code-low : m < 6 → true ≡ isCode m
+  code-low h = sym (le-leb m 5 (omega arith))
+
+  pub code-high : 6 ≤ m → false ≡ isCode m
+  code-high h = sym (lt-leb m 5 (omega arith))
 
 -- Stronger
 

@@ -1,5 +1,6 @@
 // The modes and their table: codes, which modes agree, which can lend which, which is stronger.
 ghost use mathlib.Core.Path.{_≡_};
+ghost use Rattle.modes.specs.Codes.{isCode};
 ghost use Rattle.modes.specs.Modes.{agrees, canLend, isStronger};
 
 // The codes of the modes.
@@ -27,6 +28,16 @@ const AGREE: [[bool; CODES]; CODES] = [
     [true, true, false, false, true, false],
     [true, false, false, false, false, false],
 ];
+
+// Whether a number is a mode's code.
+pub fn is_code(m: u8) -> bool
+    ensures { λ b. ⌜ b ≡ isCode m ⌝ }
+{
+    match m {
+        NONE..=W => true,
+        6..=255 => false,
+    }
+}
 
 // Whether two modes agree. A code above 5 agrees with nothing.
 pub fn agree(a: u8, b: u8) -> bool

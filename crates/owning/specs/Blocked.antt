@@ -3,6 +3,7 @@ use mathlib.Core.Path.{_≡_, refl, _∙_, ap}
 use mathlib.Core.Logic.{_⊎_, inl, inr}
 use mathlib.Core.Bool.{true, false, _&&_}
 use mathlib.Core.List.{List, [], _∷_, _++_}
+use Prim.Native.Nat.{ℕ}
 use Rattle.base.specs.Tests.{clash}
 use Rattle.modes.specs.Modes.{agrees}
 use Rattle.modes.proofs.Laws.{agrees-sym}
@@ -16,7 +17,7 @@ use Rattle.owning.specs.Clauses.{Blocked}
 pub blocked-same : (r s : Room) (queue : List Queued) → owned s ≡ owned r → Blocked r queue → Blocked s queue
 unfolding Blocked
 blocked-same r s [] e b = b
-blocked-same r s (q ∷ rest) e b = rw e b
+blocked-same r s (q ∷ rest) e b = ap (λ (m : ℕ). agrees m (q .mode)) e ∙ b
 
 -- a head that agrees does not block
 pub blocked-not : {C : Type 0} (r : Room) (q : Queued) (rest : List Queued) → agrees (owned r) (q .mode) ≡ true → Blocked r (q ∷ rest) → C

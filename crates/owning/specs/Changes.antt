@@ -92,8 +92,16 @@ module _ (r : Room) where
   credited-same m =
       by-test (Same r) (eqb m 0) (withDebt r nobody m 0) (withDebt r (r .lender) m (r .link)) (λ e. same-parts r _ refl refl) (λ e. same-parts r _ refl refl)
 
+-- none and IR are under all that is stronger
+pub weak-under : (m o : ℕ) → m ≤ IR → m < o → under m o ≡ true
+weak-under m o weak less = go (same? m none)
+  where
+    go : (m ≡ none) ⊎ (m ≢ none) → under m o ≡ true
+    go (inl e) = rw e (none-under o)
+    go (inr e) = let k : m ≡ IR = omega arith in rw k (IR-under o (omega arith))
+
 -- an entry of mode m, or none at all, is of mode m
-entry-mode : (m l : ℕ) → entryOf m l .mode ≡ m
+pub entry-mode : (m l : ℕ) → entryOf m l .mode ≡ m
 unfolding entryOf
 entry-mode m l =
     by-test (λ (e : Entry). e .mode ≡ m) (eqb m 0) noEntry (record { mode = m; link = l }) (λ e. sym (eqb-true m 0 e)) (λ e. refl)
@@ -146,11 +154,7 @@ module _ (r : Room) (y : ℕ) (long : length (r .entries) ≡ roomLimit) (low : 
       (λ e. same-falls r r (λ i h. refl))
     where
       lower : m < entryAt r y .mode → under m (part r y) ≡ true
-      lower h = go (same? m none)
-        where
-          go : (m ≡ none) ⊎ (m ≢ none) → under m (part r y) ≡ true
-          go (inl e) = rw e (none-under (part r y))
-          go (inr e) = let k : m ≡ IR = omega arith in rw k (IR-under (part r y) (omega (arith, part-entry r y low)))
+      lower h = weak-under m (part r y) weak (omega (arith, part-entry r y low))
 
   -- a TOKEN: the entry for its sender, then the held mode
   pub tokened-entry : (rest l : ℕ) → Alters r (setEntry r y (entryOf rest l)) y rest

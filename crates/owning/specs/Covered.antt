@@ -18,20 +18,17 @@ use Rattle.room.specs.Limits.{roomLimit}
 use Rattle.room.specs.Record.{entryAt}
 use Rattle.room.specs.Owned.{owned}
 use Rattle.owning.specs.Clauses.{Agreeing}
-use Rattle.owning.specs.Owned.{part-entry, part-under}
+use Rattle.owning.specs.Owned.{entry-under}
 
 -- y owns none, or a mode under some entry of p
 abbrev pub Covered : Room → Room → Type 0
 Covered p y = (owned y ≡ none) ⊎ ((j : ℕ) × (j < roomLimit) × (under (owned y) (entryAt p j .mode) ≡ true))
 
 module _ (p y : Room) (a : Agreeing p) where
-  entry-under : (j : ℕ) → j < roomLimit → under (entryAt p j .mode) (owned p) ≡ true
-  entry-under j h = rw (← part-entry p j h) (part-under p a j (omega arith))
-
   -- then it is under what p owns
   pub covered-under : Covered p y → under (owned y) (owned p) ≡ true
   covered-under (inl e) = rw e (none-under (owned p))
-  covered-under (inr (j, h, u)) = under-trans (owned y) (entryAt p j .mode) (owned p) u (entry-under j h)
+  covered-under (inr (j, h, u)) = under-trans (owned y) (entryAt p j .mode) (owned p) u (entry-under p a j h)
 
   -- a loan of p's fits over what y owns, if a loan of IR finds no more than IR there
   pub loan-fits : (m : ℕ) → canLend (owned p) m ≡ true → ((j : ℕ) → j < roomLimit → small (entryAt p j .mode) ≡ true)
@@ -54,4 +51,4 @@ module _ (p y : Room) (a : Agreeing p) where
           under-trans (owned y) (entryAt p j .mode) m u
           (implies-use (canLend (owned p) m && not (eqb m IR) && small (entryAt p j .mode) && under (entryAt p j .mode) (owned p)) _
           (triples-at codes fits refl (owned p) m (entryAt p j .mode) (c .0) (c .1) (small-code _ (weak j h)))
-          (and-both _ _ (and-both _ _ (and-both _ _ can (rw (ne-eqb m IR q))) (weak j h)) (entry-under j h)))
+          (and-both _ _ (and-both _ _ (and-both _ _ can (rw (ne-eqb m IR q))) (weak j h)) (entry-under p a j h)))

@@ -20,7 +20,7 @@ use Rattle.room.specs.Record.{entryOf, entryAt, withModes, withDebt, setEntry}
 use Rattle.room.specs.Owned.{owned}
 use Rattle.room.specs.Rules.{nextLink, lentTo, left, remaining, passedTo, credited, tokenedBy, reduced}
 use Rattle.facts.specs.Rooms.{RoomFacts}
-use Rattle.owning.specs.Clauses.{Exact, Agreeing}
+use Rattle.owning.specs.Clauses.{Square, Exact, Agreeing}
 use Rattle.owning.specs.Owned.{part-held}
 use Rattle.owning.specs.Changes.{same-owned, modes-alters, wanted-same, granted-alters, credited-same, passed-owned}
 use Rattle.owning.specs.Falls.{loan-same, grant-owned}
@@ -29,7 +29,7 @@ use Rattle.owning.specs.Small.{SmallEntries, owned-small}
 
 -- EXACT but for room x, which has not settled yet: what it owns is under what it owes, and that is small
 pub record ExactBut (x n : ℕ) (rooms : ℕ → Room) : Type 0 where
-  pub others : (c : ℕ) → c < n → c ≢ x → rooms c .token ≡ false → rooms c .credit ≡ owned (rooms c)
+  pub others : (c : ℕ) → c < n → c ≢ x → rooms c .token ≡ false → Square (rooms c)
   pub owes : under (owned (rooms x)) (rooms x .credit) ≡ true
   pub weak : small (rooms x .credit) ≡ true
 
@@ -51,12 +51,12 @@ owned-weak n c r f without entries = owned-small r entries (held (below? (r .hel
 pub exact-still : (x n : ℕ) (rooms : ℕ → Room) → ExactBut x n rooms → isStronger (rooms x .credit) (owned (rooms x)) ≡ false → Exact n rooms
 exact-still x n rooms b e c h t = go (same? c x)
   where
-    equal : (owned (rooms x) ≡ rooms x .credit) ⊎ (owned (rooms x) ≢ rooms x .credit) → rooms x .credit ≡ owned (rooms x)
+    equal : (owned (rooms x) ≡ rooms x .credit) ⊎ (owned (rooms x) ≢ rooms x .credit) → Square (rooms x)
     equal (inl q) = sym q
     equal (inr q) =
         absurd (omega (arith, under-small-falls (owned (rooms x)) (rooms x .credit) (b .weak) (b .owes) q .1, stronger-false (rooms x .credit) (owned (rooms x)) e))
 
-    go : (c ≡ x) ⊎ (c ≢ x) → rooms c .credit ≡ owned (rooms c)
+    go : (c ≡ x) ⊎ (c ≢ x) → Square (rooms c)
     go (inl q) = rw q (equal (same? (owned (rooms x)) (rooms x .credit)))
     go (inr q) = b .others c h q t
 
@@ -74,7 +74,7 @@ module _ (n : ℕ) (old new : ℕ → Room) (me : ℕ) (low : me < n) (others : 
       owes : (m : ℕ) → credited (old me) m .credit ≡ m
       owes m = by-test (λ (r : Room). r .credit ≡ m) (eqb m 0) (withDebt (old me) nobody m 0) (withDebt (old me) (old me .lender) m (old me .link)) (λ e. refl) (λ e. refl)
 
-      go : (c ≡ me) ⊎ (c ≢ me) → new c .credit ≡ owned (new c)
+      go : (c ≡ me) ⊎ (c ≢ me) → Square (new c)
       go (inl e) =
           rw (e, here)
           (owes (owned (old me)) ∙ sym (same-owned (old me) (credited (old me) (owned (old me))) (credited-same (old me) (owned (old me)))))
@@ -82,10 +82,10 @@ module _ (n : ℕ) (old new : ℕ → Room) (me : ℕ) (low : me < n) (others : 
 
   module _ (x : Exact n old) where
     -- other records: only the changed one has to be looked at
-    room : (new me .token ≡ false → new me .credit ≡ owned (new me)) → Exact n new
+    room : (new me .token ≡ false → Square (new me)) → Exact n new
     room f c h t = go (same? c me)
       where
-        go : (c ≡ me) ⊎ (c ≢ me) → new c .credit ≡ owned (new c)
+        go : (c ≡ me) ⊎ (c ≢ me) → Square (new c)
         go (inl e) = rw e (f (ap (λ (c : ℕ). new c .token) (sym e) ∙ t))
         go (inr e) = rw (others c e) (x c h (ap (λ (r : Room). r .token) (sym (others c e)) ∙ t))
 

@@ -8,7 +8,7 @@ use Rattle.base.specs.Sums.{same?}
 use Rattle.modes.specs.Codes.{none}
 use Rattle.modes.specs.Modes.{agrees, canLend}
 use Rattle.modes.specs.Under.{under, small}
-use Rattle.modes.proofs.Laws.{agrees-sym, lends-some, lends-agrees, lends-le, lends-under, under-agree, agrees-under, under-trans, under-small-falls}
+use Rattle.modes.proofs.Laws.{agrees-sym, lends-some, lends-agrees, lends-le, lends-under, under-agree, agrees-under, under-trans, under-small-falls, low-small}
 use Rattle.room.specs.declared.Room.{Room}
 use Rattle.room.specs.Limits.{roomLimit}
 use Rattle.room.specs.Owned.{owned}
@@ -24,6 +24,10 @@ under-small-le a b h u = go (same? a b)
     go : (a ≡ b) ⊎ (a ≢ b) → a ≤ b
     go (inl e) = omega arith
     go (inr e) = omega (arith, under-small-falls a b h u e .1)
+
+-- only none is under none
+pub under-none : (a : ℕ) → under a none ≡ true → a ≡ none
+under-none a u = omega (arith, under-small-le a none (low-small none (omega arith)) u)
 
 module _ (r s : Room) (a : Agreeing r) where
   -- modes that fall agree as before, and their strongest falls

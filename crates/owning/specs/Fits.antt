@@ -19,13 +19,9 @@ use Rattle.room.specs.Rules.{lentTo, passedTo, credited, reduced}
 use Rattle.table.specs.declared.Wire.{Wire}
 use Rattle.table.specs.declared.Message.the-variants as msg
 use Rattle.facts.specs.Wires.{wire, leavingSent}
-use Rattle.owning.specs.Clauses.{Agreeing, Fits}
+use Rattle.owning.specs.Clauses.{Agreeing, GrantFits, Fits}
 use Rattle.owning.specs.Weaker.{Weaker, credited-weaker, lent-weaker, passed-weaker, reduced-weaker}
 use Rattle.owning.specs.Messages.{Among, sent-among, leaving-among, leavingWire, kind, Unnamed, unnamed-grant}
-
--- a message, if it is a GRANT, fits over what its receiver owns
-abbrev GrantFits : (ℕ → Room) → Wire → Type 0
-GrantFits rooms w = (m l : ℕ) → w .message ≡ msg.Grant m l → under (owned (rooms (w .to))) m ≡ true
 
 module _ (rooms : ℕ → Room) (messages : List Wire) (f : Fits rooms messages) where
   -- other messages: only the new one has to be looked at
@@ -51,11 +47,11 @@ module _ (n : ℕ) (old new : ℕ → Room) (messages : List Wire) (me : ℕ) (l
     (f : Fits old messages) where
   -- other records: only the GRANTs to the changed room have to be looked at
   room : ((w : Wire) → Mem w messages → w .to ≡ me → GrantFits new w) → Fits new messages
-  room g w h m l e = go (same? (w .to) me)
+  room g w h = go (same? (w .to) me)
     where
-      go : (w .to ≡ me) ⊎ (w .to ≢ me) → under (owned (new (w .to))) m ≡ true
-      go (inl q) = g w h q m l e
-      go (inr q) = rw (others (w .to) q) (f w h m l e)
+      go : (w .to ≡ me) ⊎ (w .to ≢ me) → GrantFits new w
+      go (inl q) = g w h q
+      go (inr q) = rw (others (w .to) q) (f w h)
 
   -- the room owns no more than before
   pub fits-weaker : Weaker (old me) (new me) → Fits new messages

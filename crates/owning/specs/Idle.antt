@@ -8,7 +8,7 @@ use native.Mathlib.Omega.{arith}
 use lib.ListN.{length}
 use Rattle.base.specs.Sums.{same?}
 use Rattle.base.specs.Lists.{Mem, remove, mem-remove}
-use Rattle.modes.specs.Codes.{none, IR}
+use Rattle.modes.specs.Codes.{IR}
 use Rattle.modes.specs.Modes.{canLend}
 use Rattle.modes.proofs.Laws.{low-small}
 use Rattle.room.specs.declared.Room.{Room}
@@ -18,14 +18,10 @@ use Rattle.room.specs.Rules.{lentTo, passedTo, credited, reduced}
 use Rattle.table.specs.declared.Wire.{Wire}
 use Rattle.table.specs.declared.Message.the-variants as msg
 use Rattle.facts.specs.Wires.{wire, leavingSent}
-use Rattle.owning.specs.Clauses.{Agreeing, Idle}
+use Rattle.owning.specs.Clauses.{Agreeing, Free, RequestIdle, Idle}
 use Rattle.owning.specs.Falls.{under-small-le}
 use Rattle.owning.specs.Weaker.{Weaker, credited-weaker, lent-weaker, passed-weaker, reduced-weaker}
 use Rattle.owning.specs.Messages.{Among, sent-among, leaving-among, leavingWire, kind, Unnamed, unnamed-request}
-
--- a message, if it is a REQUEST that says so, has an origin that owns nothing
-abbrev RequestIdle : (ℕ → Room) → Wire → Type 0
-RequestIdle rooms w = (o m : ℕ) → w .message ≡ msg.Request o m true → owned (rooms o) ≡ none
 
 module _ (rooms : ℕ → Room) (messages : List Wire) (d : Idle rooms messages) where
   -- other messages: only the new one has to be looked at
@@ -40,7 +36,7 @@ module _ (rooms : ℕ → Room) (messages : List Wire) (d : Idle rooms messages)
   idle-taken k w h = d w (mem-remove k messages h)
 
   -- a REQUEST is sent that says so only if its origin owns nothing
-  pub idle-request : (a b o m : ℕ) (idle : Bool) → (idle ≡ true → owned (rooms o) ≡ none)
+  pub idle-request : (a b o m : ℕ) (idle : Bool) → (idle ≡ true → Free (rooms o))
       → Idle rooms (messages ++ (wire a b (msg.Request o m idle) ∷ []))
   idle-request a b o m idle g =
       sent (wire a b (msg.Request o m idle)) λ p k e.
@@ -55,10 +51,10 @@ module _ (rooms : ℕ → Room) (messages : List Wire) (d : Idle rooms messages)
 module _ (n : ℕ) (old new : ℕ → Room) (messages : List Wire) (me : ℕ) (low : me < n) (others : (c : ℕ) → c ≢ me → new c ≡ old c)
     (d : Idle old messages) where
   -- other records: only the REQUESTs of the changed room have to be looked at
-  room : ((w : Wire) → Mem w messages → (m : ℕ) → w .message ≡ msg.Request me m true → owned (new me) ≡ none) → Idle new messages
+  room : ((w : Wire) → Mem w messages → (m : ℕ) → w .message ≡ msg.Request me m true → Free (new me)) → Idle new messages
   room g w h o m e = go (same? o me)
     where
-      go : (o ≡ me) ⊎ (o ≢ me) → owned (new o) ≡ none
+      go : (o ≡ me) ⊎ (o ≢ me) → Free (new o)
       go (inl q) = rw q (g w h m (rw q at e))
       go (inr q) = rw (others o q) (d w h o m e)
 
@@ -66,8 +62,8 @@ module _ (n : ℕ) (old new : ℕ → Room) (messages : List Wire) (me : ℕ) (l
   pub idle-weaker : Weaker (old me) (new me) → Idle new messages
   idle-weaker u = room (λ w h m e. none-still (d w h me m e))
     where
-      none-still : owned (old me) ≡ none → owned (new me) ≡ none
-      none-still z = omega (arith, under-small-le (owned (new me)) none (low-small none (omega arith)) (rw z at u))
+      none-still : Free (old me) → Free (new me)
+      none-still z = omega (arith, under-small-le (owned (new me)) (owned (old me)) (low-small (owned (old me)) (omega arith)) u)
 
   -- it began no REQUEST
   pub idle-unnamed : Unnamed me messages → Idle new messages

@@ -17,16 +17,12 @@ use Rattle.room.specs.Owned.{owned}
 use Rattle.table.specs.declared.Queued.{Queued}
 use Rattle.rules.specs.Rules.{isEmpty}
 use Rattle.facts.specs.Rooms.{RoomFacts}
-use Rattle.owning.specs.Clauses.{Blocked, Light}
+use Rattle.owning.specs.Clauses.{Blocked, LightAt, Light}
 use Rattle.owning.specs.Changes.{same-owned, wanted-same}
 use Rattle.owning.specs.Falls.{under-small-le}
 use Rattle.owning.specs.Weaker.{Weaker}
 use Rattle.owning.specs.Small.{SmallEntries, owned-small}
 use Rattle.owning.specs.Blocked.{blocked-same, blocked-not, blocked-join, blocked-ask}
-
--- a room that waits for IR owns none or IR, or is blocked
-abbrev LightAt : Room → List Queued → Type 0
-LightAt r queue = r .wanted ≡ IR → (owned r ≤ IR) ⊎ ((r .token ≡ true) × Blocked r queue)
 
 -- what is under none or IR is none or IR
 still-light : (r s : Room) → Weaker r s → owned r ≤ IR → owned s ≤ IR

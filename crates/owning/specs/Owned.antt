@@ -1,5 +1,5 @@
 -- What a room owns is the strongest of its modes, and one of them.
-use mathlib.Core.Path.{_≡_, refl, sym, _∙_}
+use mathlib.Core.Path.{_≡_, refl, sym, _∙_, ap}
 use mathlib.Core.Logic.{_≢_, _⊎_, inl, inr}
 use mathlib.Core.Bool.{true}
 use Prim.Native.Nat.{ℕ, zero, suc, _≤_, _<_}
@@ -84,6 +84,16 @@ module _ (r : Room) where
       go (inl e) = rw (e, ← owned-part .2) (under-refl (owned r))
       go (inr e) =
           weaker-under (part r i) (owned r) (rw (owned-part .2) (a i (owned-part .0) h (owned-part .1) e)) (part-owned i h)
+
+  -- the same, of an entry and of the held mode
+  pub entry-owned : (j : ℕ) → j < roomLimit → entryAt r j .mode ≤ owned r
+  entry-owned j h = omega (arith, part-owned j (omega arith), part-entry j h)
+
+  pub entry-under : Agreeing r → (j : ℕ) → j < roomLimit → under (entryAt r j .mode) (owned r) ≡ true
+  entry-under a j h = rw (← part-entry j h) (part-under a j (omega arith))
+
+  pub held-under : Agreeing r → under (r .held) (owned r) ≡ true
+  held-under a = ap (λ (m : ℕ). under m (owned r)) (sym part-held) ∙ part-under a roomLimit (omega arith)
 
   -- so what agrees with owned agrees with each
   pub agrees-part : Agreeing r → (m : ℕ) → agrees m (owned r) ≡ true → (i : ℕ) → i ≤ roomLimit → agrees m (part r i) ≡ true

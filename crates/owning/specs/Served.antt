@@ -22,7 +22,7 @@ use Rattle.table.specs.declared.Queued.{Queued}
 use Rattle.rules.specs.Work.{Work, send}
 use Rattle.rules.specs.Rules.{hold, lend, pass, upgradeWaits, upgraded, serveQueue, serve, isEmpty}
 use Rattle.kept.specs.Owns.{owned-held}
-use Rattle.owning.specs.Clauses.{Blocked, Served}
+use Rattle.owning.specs.Clauses.{Blocked, UpgradeServed, HeadServed, Served}
 use Rattle.owning.specs.Changes.{same-owned, wanted-same}
 use Rattle.owning.specs.Blocked.{blocked-same, blocked-ask}
 
@@ -88,18 +88,15 @@ upgraded-justly w =
 
 module _ (n : ℕ) (new : ℕ → Room) (me : ℕ) (alone : (c : ℕ) → c < n → c ≢ me → new c .token ≡ false) where
   -- only the room that may have the token has to be looked at
-  room : (queue : List Queued)
-      → (new me .token ≡ true → upgradeWaits (new me) ≡ true → hasNoEntries (new me) ≡ false)
-      → (new me .token ≡ true → upgradeWaits (new me) ≡ false → (queue ≡ []) ⊎ Blocked (new me) queue)
-      → Served n new queue
+  room : (queue : List Queued) → UpgradeServed (new me) → HeadServed (new me) queue → Served n new queue
   room queue upgrade head =
       record { upgrade = λ c h. first c h (same? c me); head = λ c h. second c h (same? c me) }
     where
-      first : (c : ℕ) → c < n → (c ≡ me) ⊎ (c ≢ me) → new c .token ≡ true → upgradeWaits (new c) ≡ true → hasNoEntries (new c) ≡ false
+      first : (c : ℕ) → c < n → (c ≡ me) ⊎ (c ≢ me) → UpgradeServed (new c)
       first c h (inl e) = rw e upgrade
       first c h (inr e) = λ t. clash t (alone c h e)
 
-      second : (c : ℕ) → c < n → (c ≡ me) ⊎ (c ≢ me) → new c .token ≡ true → upgradeWaits (new c) ≡ false → (queue ≡ []) ⊎ Blocked (new c) queue
+      second : (c : ℕ) → c < n → (c ≡ me) ⊎ (c ≢ me) → HeadServed (new c) queue
       second c h (inl e) = rw e head
       second c h (inr e) = λ t. clash t (alone c h e)
 
@@ -161,10 +158,10 @@ pub served-other : (n : ℕ) (old new : ℕ → Room) (queue : List Queued) (me 
 served-other n old new queue me others without s =
     record { upgrade = λ c h. first c h (same? c me); head = λ c h. second c h (same? c me) }
   where
-    first : (c : ℕ) → c < n → (c ≡ me) ⊎ (c ≢ me) → new c .token ≡ true → upgradeWaits (new c) ≡ true → hasNoEntries (new c) ≡ false
+    first : (c : ℕ) → c < n → (c ≡ me) ⊎ (c ≢ me) → UpgradeServed (new c)
     first c h (inl e) = λ t. clash t (ap (λ (c : ℕ). new c .token) e ∙ without)
     first c h (inr e) = rw (others c e) (s .upgrade c h)
 
-    second : (c : ℕ) → c < n → (c ≡ me) ⊎ (c ≢ me) → new c .token ≡ true → upgradeWaits (new c) ≡ false → (queue ≡ []) ⊎ Blocked (new c) queue
+    second : (c : ℕ) → c < n → (c ≡ me) ⊎ (c ≢ me) → HeadServed (new c) queue
     second c h (inl e) = λ t. clash t (ap (λ (c : ℕ). new c .token) e ∙ without)
     second c h (inr e) = rw (others c e) (s .head c h)

@@ -22,7 +22,7 @@ use Rattle.table.specs.declared.Message.the-variants as msg
 use Rattle.table.specs.Tables.{noWire}
 use Rattle.facts.specs.Wires.{wire, leavingSent}
 use Rattle.owning.specs.Parts.{part}
-use Rattle.owning.specs.Clauses.{Small}
+use Rattle.owning.specs.Clauses.{ReduceSmall, Small}
 use Rattle.owning.specs.Owned.{part-entry, part-held, part-owned, owned-any}
 use Rattle.owning.specs.Changes.{Falls, Alters, same-falls, credited-same, lent-alters, passed-alters, passed-owned, reduced-falls, tokened-entry, tokened-held}
 use Rattle.owning.specs.Weaker.{passed-falls}
@@ -63,7 +63,7 @@ owned-small r entries held = owned-any r (λ (m : ℕ). small m ≡ true) (λ i 
 -- other messages: only the new one has to be looked at
 small-among : (n : ℕ) (rooms : ℕ → Room) (before after : List Wire) (x : Wire) → Among after before x
     → ((m rest l : ℕ) → x .message ≡ msg.Token m rest l → small rest ≡ true)
-    → ((l m : ℕ) → x .message ≡ msg.Reduce l m → m ≤ IR)
+    → ReduceSmall x
     → Small n rooms before → Small n rooms after
 small-among n rooms before after x among token reduce s =
     record {

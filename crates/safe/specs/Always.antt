@@ -6,7 +6,7 @@ use Prim.Native.Nat.{ℕ, _+_, _≤_, _<_}
 use native.Mathlib.Omega.{arith}
 use lib.Dec.{leb, eqb}
 use borrow.Author.Tests.{lt-leb, eq-eqb, ne-eqb}
-use Rattle.room.specs.declared.Room.{Room}
+use Rattle.room.specs.Limits.{roomLimit}
 use Rattle.table.specs.declared.Table.{Table}
 use Rattle.table.specs.declared.Found.the-variants as found
 use Rattle.table.specs.declared.Message.{Message}
@@ -28,13 +28,14 @@ use Rattle.safe.specs.Fresh.{fresh-safe}
 use Rattle.safe.specs.Reached.{Reached, Demand3}
 use Rattle.safe.specs.Step.{Safe, step-goes, runs-safe, messages-count}
 
--- every reached table has the invariant
-pub reached-safe : (n : ℕ) (t : Table) → Reached n t → Safe n t
+-- the fresh table of n rooms has the invariant,
+pub fresh-start : (n : ℕ) → 1 ≤ n → n ≤ roomLimit → Safe n (freshTable n)
 unfolding freshTable
-reached-safe n t r =
-    subst (Safe n) (r .leads)
-    (runs-safe n (r .events) (freshTable n)
-    (record { rooms = refl; lawful = fresh-has n (r .some) (r .most); invariant = fresh-safe n (r .some) (r .most) }))
+fresh-start n some most = record { rooms = refl; lawful = fresh-has n some most; invariant = fresh-safe n some most }
+
+-- and so has every reached table
+pub reached-safe : (n : ℕ) (t : Table) → Reached n t → Safe n t
+reached-safe n t r = subst (Safe n) (r .leads) (runs-safe n (r .events) (freshTable n) (fresh-start n (r .some) (r .most)))
 
 module _ (n : ℕ) (t : Table) (r : Reached n t) where
   safe : Safe n t

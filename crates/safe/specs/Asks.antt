@@ -183,38 +183,44 @@ module _ (n : ℕ) (rooms : ℕ → Room) (kept : List Wire) (w : Work) (a : Don
       with : w .room .token ≡ true
       with = facts n rooms kept w a .U-token holds
 
-  -- "HANDBACK(x). Held becomes none. Then settle or serve."
-  pub hand-back-safe : Done n rooms kept (handBack w)
-  unfolding handBack settleOrServe hold due
-  hand-back-safe =
-      by-test (Done n rooms kept) (w .room .token) (serve (hold w 0)) (settle (hold w 0))
-      (λ with. served n rooms kept (hold w 0) with
-      (record {
-        whole = whole;
-        clauses = clauses-hand-back n rooms kept w a;
-        exact = exact-with 0 with;
-        light = light;
-        unworn = a .unworn;
-      }))
-      (λ without. settling n rooms kept (hold w 0)
-      (record {
-        whole = whole;
+  -- what a room has handed back
+  handed-whole : Whole n rooms kept (hold w 0)
+  unfolding due
+  handed-whole = hold-kept n rooms kept w (a .whole) idle 0 (omega arith) refl (λ u. absurd (omega arith)) (λ u. absurd (omega arith))
+
+  handed-light : Light n (holding 0) (w .queue)
+  handed-light = light-other n before (holding 0) (w .queue) me (a .whole .low) (still 0) (a .invariant .light) (λ e. omega (arith, wants-now 0 0))
+
+  -- without the token it may owe more than it owns
+  pub handed-owing : w .room .token ≡ false → Owing n rooms kept (hold w 0)
+  unfolding hold
+  handed-owing without =
+      record {
+        whole = handed-whole;
         clauses = clauses-hand-back n rooms kept w a;
         exact =
             but-hand-back n before (holding 0) me (a .whole .low) (still 0) (a .invariant .exact) (a .invariant .sound .room me (a .whole .low))
             (at-room (λ (r : Room). r .token ≡ false) without) (a .invariant .clauses .pairs .room me (a .whole .low))
             (λ j l. a .invariant .clauses .small .entry me j (a .whole .low) l) 0 (held 0);
-        light = light;
+        light = handed-light;
         served = served-other n before (holding 0) (w .queue) me (still 0) (token-now 0 0 ∙ without) (a .invariant .served);
         unworn = a .unworn;
-      })
-      without)
-    where
-      whole : Whole n rooms kept (hold w 0)
-      whole = hold-kept n rooms kept w (a .whole) idle 0 (omega arith) refl (λ u. absurd (omega arith)) (λ u. absurd (omega arith))
+      }
 
-      light : Light n (holding 0) (w .queue)
-      light = light-other n before (holding 0) (w .queue) me (a .whole .low) (still 0) (a .invariant .light) (λ e. omega (arith, wants-now 0 0))
+  -- "HANDBACK(x). Held becomes none. Then settle or serve."
+  pub hand-back-safe : Done n rooms kept (handBack w)
+  unfolding handBack settleOrServe hold
+  hand-back-safe =
+      by-test (Done n rooms kept) (w .room .token) (serve (hold w 0)) (settle (hold w 0))
+      (λ with. served n rooms kept (hold w 0) with
+      (record {
+        whole = handed-whole;
+        clauses = clauses-hand-back n rooms kept w a;
+        exact = exact-with 0 with;
+        light = handed-light;
+        unworn = a .unworn;
+      }))
+      (λ without. settling n rooms kept (hold w 0) (handed-owing without) without)
 
   -- ASK is refused where there are too many messages, or a counter is worn.
   module _ (free : w .room .held ≡ 0) (m : ℕ) (some : 1 ≤ m) (code : m ≤ W) (few : length messages < busyLimit)

@@ -48,10 +48,10 @@ use Rattle.safe.specs.Settle.{Owing, settling}
 use Rattle.safe.specs.Heard.{taking, request-safe}
 
 -- what a room that leaves its lender has sent
-abbrev sending : ℕ → Room → List Queued → List Wire → Work
+abbrev pub sending : ℕ → Room → List Queued → List Wire → Work
 sending me room queue sent = record { me = me; room = room; queue = queue; sent = sent; worn = false }
 
-left-work : (me : ℕ) (room r : Room) (queue : List Queued) (a : ℕ)
+pub left-work : (me : ℕ) (room r : Room) (queue : List Queued) (a : ℕ)
     → sendOut (taking me room queue) (leaving r a) ≡ sending me room queue (leavingSent me r a)
 unfolding leaving sendOut send leavingSent
 left-work me room r queue a = go (eqb (r .lender) nobody || eqb (r .lender) a)
@@ -169,63 +169,67 @@ module _ (n : ℕ) (rooms : ℕ → Room) (messages : List Wire) (me : ℕ) (roo
       now-rooted : new rooted me ≡ tokenedBy (old me) me a m rest l
       now-rooted = here rooted ∙ sym (ap (λ (r : Room). tokenedBy r me a m rest l) at-me)
 
-  -- "REDUCE: .. Then settle or serve."
-  reduce-safe : (l m : ℕ) → Oldest messages k a me (msg.Reduce l m) → a < n → a ≢ me
-      → At n rooms kept w empty 0 → Whole n rooms kept (withRoom w (reduced room a l m)) → Done n rooms kept (receive w a (msg.Reduce l m))
-  unfolding receive settleOrServe
-  reduce-safe l m at from-low other taken whole =
-      by-test (Done n rooms kept) (lowered .token) (serve (withRoom w lowered)) (settle (withRoom w lowered))
-      (λ with. served n rooms kept (withRoom w lowered) with
-      (record {
-        whole = whole;
-        clauses = clauses;
-        exact = exact-token n old (new lowered) me low (others lowered) (inv .exact) (ap (λ (r : Room). r .token) (here lowered) ∙ with);
-        light =
-            light-reduce n old (new lowered) queue me low (others lowered) (inv .light) (inv .sound .room me low) (λ j b. inv .clauses .small .entry me j low b)
-            (same (λ r. r .token) refl refl) (same (λ r. r .wanted) refl refl) weaker;
-        unworn = refl;
-      }))
-      (λ without. settling n rooms kept (withRoom w lowered)
-      (record {
-        whole = whole;
-        clauses = clauses;
-        exact =
-            but-reduce n old (new lowered) me low (others lowered) (inv .exact) (inv .sound .room me low) (before without) (inv .clauses .pairs .room me low)
-            (λ j b. inv .clauses .small .entry me j low b) (inv .clauses .long me low) a (omega (arith, taken .small)) l m weak now-lowered;
-        light = light-weaker n old (new lowered) queue me low (others lowered) (inv .light) (before without) (same (λ r. r .wanted) refl refl) weaker;
-        served = served-other n old (new lowered) queue me (others lowered) (ap (λ (r : Room). r .token) (here lowered) ∙ without) (inv .served);
-        unworn = refl;
-      })
-      without)
-    where
-      lowered : Room
-      lowered = reduced room a l m
+  -- "REDUCE"
+  module _ (l m : ℕ) (at : Oldest messages k a me (msg.Reduce l m)) (from-low : a < n) (other : a ≢ me) (taken : At n rooms kept w empty 0)
+      (whole : Whole n rooms kept (withRoom w (reduced room a l m))) where
+    abbrev lowered : Room
+    lowered = reduced room a l m
 
-      low : me < n
-      low = taken .low
+    low : me < n
+    low = taken .low
 
-      now-lowered : new lowered me ≡ reduced (old me) a l m
-      now-lowered = here lowered ∙ sym (ap (λ (r : Room). reduced r a l m) at-me)
+    now-lowered : new lowered me ≡ reduced (old me) a l m
+    now-lowered = here lowered ∙ sym (ap (λ (r : Room). reduced r a l m) at-me)
 
-      weak : m ≤ IR
-      weak = inv .clauses .small .new (wire a me (msg.Reduce l m)) (rw (← at .there) (mem-at messages k noWire (at .low))) l m refl
+    weak : m ≤ IR
+    weak = inv .clauses .small .new (wire a me (msg.Reduce l m)) (rw (← at .there) (mem-at messages k noWire (at .low))) l m refl
 
-      -- what a REDUCE leaves alone
-      same : {A : Type 0} (f : Room → A) → f (setEntry room a (entryOf m l)) ≡ f room → f room ≡ f room → f (new lowered me) ≡ f (old me)
-      same f p q = ap f (here lowered) ∙ reduced-either room a l m (λ (r : Room). f r ≡ f room) p q ∙ sym (ap f at-me)
+    -- what a REDUCE leaves alone
+    same : {A : Type 0} (f : Room → A) → f (setEntry room a (entryOf m l)) ≡ f room → f room ≡ f room → f (new lowered me) ≡ f (old me)
+    same f p q = ap f (here lowered) ∙ reduced-either room a l m (λ (r : Room). f r ≡ f room) p q ∙ sym (ap f at-me)
 
-      before : lowered .token ≡ false → old me .token ≡ false
-      before without = sym (same (λ r. r .token) refl refl) ∙ ap (λ (r : Room). r .token) (here lowered) ∙ without
+    before : lowered .token ≡ false → old me .token ≡ false
+    before without = sym (same (λ r. r .token) refl refl) ∙ ap (λ (r : Room). r .token) (here lowered) ∙ without
 
-      weaker : under (owned (new lowered me)) (owned (old me)) ≡ true
-      weaker =
-          rw (at-me, here lowered) (reduced-weaker room (rw at-me at (inv .clauses .pairs .room me low)) a (taken .long) (omega (arith, taken .small)) l m weak)
+    weaker : under (owned (new lowered me)) (owned (old me)) ≡ true
+    weaker =
+        rw (at-me, here lowered) (reduced-weaker room (rw at-me at (inv .clauses .pairs .room me low)) a (taken .long) (omega (arith, taken .small)) l m weak)
 
-      clauses : Clauses n (new lowered) queue (kept ++ []) 0
-      clauses =
-          rw (append-nil kept)
-          (clauses-reduce n old (new lowered) queue messages me low (taken .small) (others lowered) (inv .sound .room me low) senders 0 (inv .clauses) k a from-low other l m at
-          now-lowered)
+    clauses : Clauses n (new lowered) queue (kept ++ []) 0
+    clauses =
+        rw (append-nil kept)
+        (clauses-reduce n old (new lowered) queue messages me low (taken .small) (others lowered) (inv .sound .room me low) senders 0 (inv .clauses) k a from-low other l m at
+        now-lowered)
+
+    pub reduced-owing : lowered .token ≡ false → Owing n rooms kept (withRoom w lowered)
+    reduced-owing without =
+        record {
+          whole = whole;
+          clauses = clauses;
+          exact =
+              but-reduce n old (new lowered) me low (others lowered) (inv .exact) (inv .sound .room me low) (before without) (inv .clauses .pairs .room me low)
+              (λ j b. inv .clauses .small .entry me j low b) (inv .clauses .long me low) a (omega (arith, taken .small)) l m weak now-lowered;
+          light = light-weaker n old (new lowered) queue me low (others lowered) (inv .light) (before without) (same (λ r. r .wanted) refl refl) weaker;
+          served = served-other n old (new lowered) queue me (others lowered) (ap (λ (r : Room). r .token) (here lowered) ∙ without) (inv .served);
+          unworn = refl;
+        }
+
+    -- "Then settle or serve."
+    reduce-safe : Done n rooms kept (receive w a (msg.Reduce l m))
+    unfolding receive settleOrServe
+    reduce-safe =
+        by-test (Done n rooms kept) (lowered .token) (serve (withRoom w lowered)) (settle (withRoom w lowered))
+        (λ with. served n rooms kept (withRoom w lowered) with
+        (record {
+          whole = whole;
+          clauses = clauses;
+          exact = exact-token n old (new lowered) me low (others lowered) (inv .exact) (ap (λ (r : Room). r .token) (here lowered) ∙ with);
+          light =
+              light-reduce n old (new lowered) queue me low (others lowered) (inv .light) (inv .sound .room me low) (λ j b. inv .clauses .small .entry me j low b)
+              (same (λ r. r .token) refl refl) (same (λ r. r .wanted) refl refl) weaker;
+          unworn = refl;
+        }))
+        (λ without. settling n rooms kept (withRoom w lowered) (reduced-owing without) without)
 
   pub receive-safe : (m : Message) → Oldest messages k a me m → Right n old (wire a me m)
       → At n rooms kept w (λ c. one (isNamedIn c me m)) (one (isToken m)) → Done n rooms kept (receive w a m)

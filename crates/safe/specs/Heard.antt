@@ -145,11 +145,10 @@ module _ (n : ℕ) (rooms : ℕ → Room) (messages : List Wire) (me : ℕ) (roo
           put-request n rooms kept w (room .toward) (facts .toward-low) (λ e. clash (facts .toward-token e) without) o m idle near some code waits tokenless taken
 
   -- "if the origin owned nothing, isn't b, and owned of b can lend the mode, b lends, then settles"
-  lends : room .token ≡ false → idle ≡ true → o ≢ me → canLend (owned room) m ≡ true → Done n rooms kept (settle (lend w o m))
+  pub lent-owing : room .token ≡ false → idle ≡ true → o ≢ me → canLend (owned room) m ≡ true → Owing n rooms kept (lend w o m)
   unfolding lend send lent lentTo names
-  lends without says other can =
-      settling n rooms kept (lend w o m)
-      (record {
+  lent-owing without says other can =
+      record {
         whole = lend-kept n rooms kept w o m near other can waits tokenless taken;
         clauses = rw at-me at after-clauses;
         exact =
@@ -161,8 +160,7 @@ module _ (n : ℕ) (rooms : ℕ → Room) (messages : List Wire) (me : ℕ) (roo
             (rw (at-me, here) (lent-weaker room (rw at-me at (inv .clauses .pairs .room me low)) o (taken .long) (omega (arith, taken .small)) m can));
         served = served-other n old new queue me others (ap (λ (r : Room). r .token) here ∙ without) (inv .served);
         unworn = ap (λ (r : Room). isWorn (r .counter)) (sym at-me) ∙ never-worn n (taken .small) old queue kept 0 me low (clauses .counters);
-      })
-      without
+      }
     where
       after : Room
       after = lentTo room o m
@@ -212,6 +210,10 @@ module _ (n : ℕ) (rooms : ℕ → Room) (messages : List Wire) (me : ℕ) (roo
       after-clauses : Clauses n new queue (kept ++ (wire me o (msg.Grant m (nextLink (old me .counter))) ∷ [])) 0
       after-clauses =
           clauses-lend n old new queue kept me low (taken .small) others 0 clauses o m near other now-lent (rw at-me can) (rw owns (none-under m)) quiet tree
+
+  lends : room .token ≡ false → idle ≡ true → o ≢ me → canLend (owned room) m ≡ true → Done n rooms kept (settle (lend w o m))
+  unfolding lend send lent lentTo
+  lends without says other can = settling n rooms kept (lend w o m) (lent-owing without says other can) without
 
   pub request-safe : Done n rooms kept (takeRequest w o m idle)
   unfolding takeRequest

@@ -54,15 +54,15 @@ abbrev pub Goes : ℕ → Answer → Type 0
 Goes n r = (r .«number» ≡ DONE) × Safe n (r .table)
 
 -- a refusal leaves the table
-step-refused : (t : Table) (e : Event) → eqb (refusal t e) 0 ≡ false → stepOf t e .table ≡ t
+pub step-refused : (t : Table) (e : Event) → eqb (refusal t e) 0 ≡ false → stepOf t e .table ≡ t
 unfolding stepOf
 step-refused t e b = rw b refl
 
 module _ (n : ℕ) (t : Table) (s : Safe n t) where
-  shaped : Shaped t
+  pub shaped : Shaped t
   shaped = s .lawful .2
 
-  facts : WellFormed t
+  pub facts : WellFormed t
   facts = facts-of t shaped (s .lawful .0)
 
   -- what is done leads to the table after it, which has the invariant
@@ -70,7 +70,7 @@ module _ (n : ℕ) (t : Table) (s : Safe n t) where
     fits : length (kept ++ w .sent) ≤ wireLimit
     fits = messages-fit (t .n) (facts .low) (now (roomAt t) w) (w .queue) (kept ++ w .sent) 0 (d .invariant .clauses .few)
 
-    made-is : outcome t kept w ≡ answer DONE (after t kept w)
+    pub made-is : outcome t kept w ≡ answer DONE (after t kept w)
     unfolding outcome
     made-is = rw (d .unworn, le-ltb wireLimit (length (kept ++ w .sent)) fits) refl
 
@@ -88,13 +88,13 @@ module _ (n : ℕ) (t : Table) (s : Safe n t) where
     outcome-safe = subst⁻¹ (Goes n) made-is (refl, after-safe)
 
   -- room x before it has done anything
-  unowned : NoOwnRequest (roomAt t) (messagesOf t)
+  pub unowned : NoOwnRequest (roomAt t) (messagesOf t)
   unowned = s .lawful .1
 
-  here : (x : ℕ) → Invariant (t .n) (now (roomAt t) (workAt t x)) (queueOf t) (messagesOf t)
+  pub here : (x : ℕ) → Invariant (t .n) (now (roomAt t) (workAt t x)) (queueOf t) (messagesOf t)
   here x = rw (same-rooms t shaped facts unowned x) (s .invariant)
 
-  begins : (x : ℕ) → x < t .n → Done (t .n) (roomAt t) (messagesOf t) (workAt t x)
+  pub begins : (x : ℕ) → x < t .n → Done (t .n) (roomAt t) (messagesOf t) (workAt t x)
   begins x low =
       record {
         whole = start t shaped facts unowned x low;
@@ -119,7 +119,7 @@ module _ (n : ℕ) (t : Table) (s : Safe n t) where
   pub messages-count : length (messagesOf t) ≡ t .count
   messages-count = length-take-le (t .count) (t .wires) (omega (arith, shaped .wires, facts .count))
 
-  made-safe : (e : Event) → Accepted t e → Goes n (made t e)
+  pub made-safe : (e : Event) → Accepted t e → Goes n (made t e)
   unfolding made
   made-safe e a =
       by-test (Goes n) (isAsk e) _ _

@@ -8,7 +8,7 @@ use Rattle.base.specs.Tests.{_implies_}
 use Rattle.base.specs.Below.{allBelow}
 use Rattle.base.specs.Sums.{one, countBelow}
 use Rattle.base.specs.Lists.{count}
-use Rattle.modes.specs.Codes.{IR, R, U, IW, W}
+use Rattle.modes.specs.Codes.{IR, R, U, IW, W, isCode}
 use Rattle.room.specs.declared.Room.{Room}
 use Rattle.room.specs.declared.Entry.{Entry}
 use Rattle.room.specs.Limits.{roomLimit, nobody}
@@ -21,10 +21,7 @@ use Rattle.table.specs.declared.Message.the-variants as msg
 use Rattle.table.specs.Limits.{queueLimit, wireLimit}
 use Rattle.table.specs.Tables.{roomAt, queuedAt, wireAt, queueOf, messagesOf}
 
--- "n, codes, counts and room numbers in range": a code, and a code that is not none
-abbrev pub isCode : ℕ → Bool
-isCode m = leb m W
-
+-- "n, codes, counts and room numbers in range": a code that is not none, and the counts
 abbrev pub isMode : ℕ → Bool
 isMode m = leb IR m && leb m W
 

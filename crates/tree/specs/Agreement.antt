@@ -21,8 +21,8 @@ use Rattle.facts.specs.Rooms.{RoomFacts}
 use Rattle.ledger.specs.Loans.{Ledger}
 use Rattle.owning.specs.Parts.{part}
 use Rattle.owning.specs.Clauses.{Exact, Small, Pairs, Fits}
+use Rattle.owning.specs.Owned.{part-entry, part-held, held-under, none-held}
 use Rattle.tree.specs.Tree.{Tree}
-use Rattle.tree.specs.Owns.{part-entry, part-held, held-le, held-under}
 use Rattle.tree.specs.Folds.{TokenOn}
 use Rattle.tree.specs.Root.{token-sole, rooted}
 use Rattle.tree.specs.Dominance.{Pool, Dominated, dominance}
@@ -87,7 +87,7 @@ module _ (n : ℕ) (rooms : ℕ → Room) (messages : List Wire) (facts : (c : �
     held-pool : (c : ℕ) → c < n → c ≢ r → (rooms c .held ≡ 0) ⊎ ((m : ℕ) × Pool rooms messages r m × (under (rooms c .held) m ≡ true))
     held-pool c low other =
         ⊎-elim
-        (λ z. inl (omega (arith, held-le (rooms c))))
+        (λ z. inl (none-held (rooms c) z))
         (λ k. inr (k .0, k .1, under-trans (rooms c .held) (owned (rooms c)) (k .0) (held-under (rooms c) (pairs .room c low)) (k .2)))
         (every c low other)
 

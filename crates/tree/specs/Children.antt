@@ -23,8 +23,9 @@ use Rattle.facts.specs.Rooms.{RoomFacts}
 use Rattle.facts.specs.Moments.{MessageFacts}
 use Rattle.ledger.specs.Loans.{debt, owed, flushed, Ledger}
 use Rattle.owning.specs.Clauses.{Small}
+use Rattle.owning.specs.Owned.{entry-owned}
+use Rattle.owning.specs.Falls.{under-none}
 use Rattle.tree.specs.Tree.{NoTokenTo}
-use Rattle.tree.specs.Owns.{under-none, entry-le}
 use Rattle.tree.specs.Folds.{GrantOn, TokenOn, token-told, owed-by, owed-grant, flushed-by}
 
 -- a GRANT is of some mode
@@ -48,7 +49,7 @@ module _ (n : ℕ) (rooms : ℕ → Room) (messages : List Wire) (limit : n ≤ 
       (flushed-by y c (entryAt (rooms y) c) messages (small .new))
     where
       entry : entryAt (rooms y) c .mode ≡ 0
-      entry = omega (arith, entry-le (rooms y) c (omega arith))
+      entry = omega (arith, entry-owned (rooms y) c (omega arith))
 
   -- so nobody owes it anything
   owed-none : (c : ℕ) → c < n → c ≢ y → owed rooms messages y c .mode ≡ 0

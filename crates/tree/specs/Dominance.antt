@@ -20,8 +20,9 @@ use Rattle.table.specs.Formed.{isToken, tokens}
 use Rattle.facts.specs.Rooms.{RoomFacts}
 use Rattle.ledger.specs.Loans.{debt, owed, flushed, Ledger}
 use Rattle.owning.specs.Clauses.{Exact, Small, Pairs, Fits}
+use Rattle.owning.specs.Owned.{entry-under}
+use Rattle.owning.specs.Falls.{under-none}
 use Rattle.tree.specs.Tree.{Tree}
-use Rattle.tree.specs.Owns.{under-none, entry-under}
 use Rattle.tree.specs.Folds.{GrantOn, TokenOn, token-told, owed-by, flushed-by}
 use Rattle.tree.specs.Root.{Root, holder-root, holder-quiet}
 

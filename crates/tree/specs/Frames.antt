@@ -1,53 +1,57 @@
 -- Messages that come and go without a TOKEN or a GRANT: what was said of all TOKENs and GRANTs stays.
-use mathlib.Core.Path.{_≡_, sym, _∙_, ap}
+use mathlib.Core.Path.{_≡_, refl, sym, _∙_, ap}
 use mathlib.Core.Logic.{_⊎_, inl, inr, _≢_, ⊎-elim}
-use mathlib.Core.Bool.{Bool, true, _||_}
+use mathlib.Core.Bool.{Bool, true, false, _||_, false≢true}
 use mathlib.Core.List.{List, [], _∷_, _++_, List·Memᴰ·head, List·Memᴰ·tail, List·Memᴰ·cases-cons, List·Memᴰ·not-nil, List·Memᴰ·append-cases, List·Memᴰ·eq-of-singleton, Memᴰ·append-left}
 use Prim.Native.Nat.{ℕ, zero, suc}
-use native.Mathlib.Omega.{arith}
 use lib.Dec.{eqb}
 use lib.ListN.{getD}
 use Rattle.base.specs.Choice.{by-test}
+use Rattle.base.specs.Tests.{clash}
 use Rattle.base.specs.Lists.{Mem, remove}
 use Rattle.room.specs.declared.Room.{Room}
 use Rattle.room.specs.Limits.{nobody}
 use Rattle.table.specs.declared.Wire.{Wire}
+use Rattle.table.specs.declared.Message.{Message}
 use Rattle.table.specs.declared.Message.the-variants as msg
 use Rattle.table.specs.Tables.{noWire}
 use Rattle.table.specs.Formed.{isToken}
 use Rattle.facts.specs.Wires.{wire, leavingSent}
-use Rattle.tree.specs.Tree.{NoTokenTo}
+use Rattle.tree.specs.Tree.{NoTokenTo, isGrant}
 
 -- every GRANT of a list is one of another
 abbrev pub GrantsIn : List Wire → List Wire → Type 0
-GrantsIn after messages = (w : Wire) → Mem w after → (m l : ℕ) → w .message ≡ msg.Grant m l → Mem w messages
+GrantsIn after messages = (w : Wire) → Mem w after → isGrant (w .message) ≡ true → Mem w messages
 
 -- there is no GRANT in a list
 abbrev pub NoGrant : List Wire → Type 0
-NoGrant messages = (w : Wire) → Mem w messages → (m l : ℕ) → w .message ≢ msg.Grant m l
+NoGrant messages = (w : Wire) → Mem w messages → isGrant (w .message) ≡ false
+
+-- a message that is one says a mode and a link number
+pub grant-is : (m : Message) → isGrant m ≡ true → (j : ℕ) × (l : ℕ) × (m ≡ msg.Grant j l)
+unfolding isGrant
+grant-is msg.Nothing h = absurd (false≢true h)
+grant-is (msg.Request o m idle) h = absurd (false≢true h)
+grant-is (msg.Grant m l) h = (m, l, refl)
+grant-is (msg.Token m rest l) h = absurd (false≢true h)
+grant-is (msg.Reduce l m) h = absurd (false≢true h)
 
 -- a single message that is none
-single-none : (w : Wire) → ((m l : ℕ) → w .message ≢ msg.Grant m l) → NoGrant (w ∷ [])
-single-none w h v member m l q = h m l (ap (λ (x : Wire). x .message) (sym (List·Memᴰ·eq-of-singleton member)) ∙ q)
+single-none : (w : Wire) → isGrant (w .message) ≡ false → NoGrant (w ∷ [])
+single-none w h v member = ap (λ (x : Wire). isGrant (x .message)) (List·Memᴰ·eq-of-singleton member) ∙ h
 
 -- a REDUCE, a REQUEST and a TOKEN are none
 pub reduce-none : (a b l m : ℕ) → NoGrant (wire a b (msg.Reduce l m) ∷ [])
-reduce-none a b l m = single-none (wire a b (msg.Reduce l m)) (λ k j e. differ k j e)
-  where
-    differ : (k j : ℕ) → msg.Reduce l m ≡ msg.Grant k j → ⊥
-    differ k j e = let z : _≡_ {A = ℕ} 0 1 = cc in omega arith
+unfolding isGrant
+reduce-none a b l m = single-none (wire a b (msg.Reduce l m)) refl
 
 pub request-none : (a b o m : ℕ) (idle : Bool) → NoGrant (wire a b (msg.Request o m idle) ∷ [])
-request-none a b o m idle = single-none (wire a b (msg.Request o m idle)) (λ k j e. differ k j e)
-  where
-    differ : (k j : ℕ) → msg.Request o m idle ≡ msg.Grant k j → ⊥
-    differ k j e = let z : _≡_ {A = ℕ} 0 1 = cc in omega arith
+unfolding isGrant
+request-none a b o m idle = single-none (wire a b (msg.Request o m idle)) refl
 
 pub token-none : (a b m rest l : ℕ) → NoGrant (wire a b (msg.Token m rest l) ∷ [])
-token-none a b m rest l = single-none (wire a b (msg.Token m rest l)) (λ k j e. differ k j e)
-  where
-    differ : (k j : ℕ) → msg.Token m rest l ≡ msg.Grant k j → ⊥
-    differ k j e = let z : _≡_ {A = ℕ} 0 1 = cc in omega arith
+unfolding isGrant
+token-none a b m rest l = single-none (wire a b (msg.Token m rest l)) refl
 
 -- what is sent to an old lender is a REDUCE or nothing
 pub leaving-none : (me : ℕ) (r : Room) (a : ℕ) → NoGrant (leavingSent me r a)
@@ -59,8 +63,8 @@ leaving-none me r a =
 
 -- with such a list behind it the GRANTs are those of before
 pub grants-front : (messages more : List Wire) → NoGrant more → GrantsIn (messages ++ more) messages
-grants-front messages more h w member m l q =
-    ⊎-elim (λ k. k) (λ k. absurd (h w k m l q)) (List·Memᴰ·append-cases messages member)
+grants-front messages more h w member q =
+    ⊎-elim (λ k. k) (λ k. clash q (h w k)) (List·Memᴰ·append-cases messages member)
 
 -- no TOKEN to c in the longer list: none in the shorter
 pub untold-front : (c : ℕ) (messages more : List Wire) → NoTokenTo c (messages ++ more) → NoTokenTo c messages

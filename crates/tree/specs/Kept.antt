@@ -20,8 +20,8 @@ use Rattle.table.specs.declared.Message.the-variants as msg
 use Rattle.table.specs.Tables.{noWire}
 use Rattle.table.specs.Formed.{isToken}
 use Rattle.facts.specs.Wires.{wire, leavingSent}
-use Rattle.tree.specs.Tree.{NoTokenTo, Tree}
-use Rattle.tree.specs.Frames.{reduce-none, request-none, token-none, leaving-none, grants-front, untold-front, untold-taken}
+use Rattle.tree.specs.Tree.{NoTokenTo, isGrant, Tree}
+use Rattle.tree.specs.Frames.{grant-is, reduce-none, request-none, token-none, leaving-none, grants-front, untold-front, untold-taken}
 use Rattle.tree.specs.Ranks.{tree-less, tree-rerooted, tree-attached}
 
 -- A REQUEST comes or goes
@@ -38,7 +38,7 @@ module _ (n : ℕ) (rooms : ℕ → Room) (messages : List Wire) (t : Tree n roo
   request-taken-tree k is =
       tree-less n rooms rooms messages (remove k messages) t
       (λ c low some untold. (refl, untold-taken c messages k _ is (λ q. absurd (false≢true q)) untold))
-      (λ w member j l q. mem-remove k messages member)
+      (λ w member q. mem-remove k messages member)
 
 module _ (n : ℕ) (old new : ℕ → Room) (messages : List Wire) (me : ℕ) (low : me < n) (others : (c : ℕ) → c ≢ me → new c ≡ old c)
     (t : Tree n old messages) where
@@ -57,7 +57,7 @@ module _ (n : ℕ) (old new : ℕ → Room) (messages : List Wire) (me : ℕ) (l
   modes-tree h v here =
       tree-less n old new messages messages t
       (λ c low some untold. (lender-same (ap (λ (r : Room). r .lender) here) c, untold))
-      (λ w member m l q. member)
+      (λ w member q. member)
 
   -- SETTLE
   pub settle-tree : (m : ℕ) → new me ≡ credited (old me) m
@@ -82,7 +82,7 @@ module _ (n : ℕ) (old new : ℕ → Room) (messages : List Wire) (me : ℕ) (l
   lend-root-tree y m other here free none =
       tree-rerooted n old new messages (messages ++ (wire me y (msg.Grant m (nextLink (old me .counter))) ∷ [])) t me
       (λ c low some untold. (λ e. some (same c ∙ ap (λ (x : ℕ). old x .lender) e ∙ free), inr (same c, untold-front c messages _ untold)))
-      (λ w member j l is. by w j l is (mem-snoc messages _ member))
+      (λ w member is. let g = grant-is (w .message) is in by w (g .0) (g .1) (g .2) (mem-snoc messages _ member))
     where
       same : (c : ℕ) → new c .lender ≡ old c .lender
       same = lender-same (ap (λ (r : Room). r .lender) here)
@@ -105,7 +105,7 @@ module _ (n : ℕ) (old new : ℕ → Room) (messages : List Wire) (me : ℕ) (l
       let apart : c ≢ y = λ e. some (same c ∙ ap (λ (x : ℕ). old x .lender) e ∙ free) in
       let before = untold-front c messages _ untold in
       (apart, λ e. childless c low apart before (sym (same c) ∙ e), same c, before))
-      (λ w member j l is. by w j l is (mem-snoc messages _ member))
+      (λ w member is. let g = grant-is (w .message) is in by w (g .0) (g .1) (g .2) (mem-snoc messages _ member))
     where
       same : (c : ℕ) → new c .lender ≡ old c .lender
       same = lender-same (ap (λ (r : Room). r .lender) here)
@@ -127,9 +127,10 @@ module _ (n : ℕ) (old new : ℕ → Room) (messages : List Wire) (me : ℕ) (l
         λ e. untold sent (Memᴰ·append-right messages (List·Memᴰ·head refl)) refl (sym e),
         at c some (untold-front c messages (sent ∷ []) untold) (same? c me),
       ))
-      (λ w member j l is.
-      let before = grants-front messages (sent ∷ []) (token-none me y m (remaining (old me) y) (nextLink (old me .counter))) w member j l is in
-      (none w before j l is, inr before))
+      (λ w member is.
+      let before = grants-front messages (sent ∷ []) (token-none me y m (remaining (old me) y) (nextLink (old me .counter))) w member is in
+      let g = grant-is (w .message) is in
+      (none w before (g .0) (g .1) (g .2), inr before))
     where
       sent : Wire
       sent = wire me y (msg.Token m (remaining (old me) y) (nextLink (old me .counter)))
@@ -151,7 +152,7 @@ module _ (n : ℕ) (old new : ℕ → Room) (messages : List Wire) (me : ℕ) (l
     -- GRANT: its sender is below its receiver
     pub grant-tree : (m l : ℕ) → k < length messages → getD messages k noWire ≡ wire a me (msg.Grant m l)
         → new me ≡ withDebt (withModes (old me) m 0) a m l → Tree n new (remove k messages ++ leavingSent me (old me) a)
-    unfolding isToken
+    unfolding isToken isGrant
     grant-tree m l inside is here =
         record {
           rank = t .rank;
@@ -159,12 +160,12 @@ module _ (n : ℕ) (old new : ℕ → Room) (messages : List Wire) (me : ℕ) (l
               λ c low some untold.
               at c low some (untold-taken c messages k _ is (λ q. absurd (false≢true q)) (untold-front c (remove k messages) _ untold)) (same? c me);
           grant =
-              λ w member j i q.
-              t .grant w (mem-remove k messages (grants-front (remove k messages) _ (leaving-none me (old me) a) w member j i q)) j i q;
+              λ w member q.
+              t .grant w (mem-remove k messages (grants-front (remove k messages) _ (leaving-none me (old me) a) w member q)) q;
         }
       where
         nearer : t .rank a < t .rank me
-        nearer = t .grant (wire a me (msg.Grant m l)) (rw (← is) (mem-at messages k noWire inside)) m l refl
+        nearer = t .grant (wire a me (msg.Grant m l)) (rw (← is) (mem-at messages k noWire inside)) refl
 
         at : (c : ℕ) → c < n → new c .lender ≢ nobody → NoTokenTo c messages → (c ≡ me) ⊎ (c ≢ me) → t .rank (new c .lender) < t .rank c
         at c low some untold (inl e) =
@@ -183,7 +184,7 @@ module _ (n : ℕ) (old new : ℕ → Room) (messages : List Wire) (me : ℕ) (l
           lender-left (inl free) c some,
           untold-taken c messages k _ is (λ q e. some (ap (λ (x : ℕ). new x .lender) (sym e) ∙ free)) (untold-front c (remove k messages) _ untold),
         ))
-        (λ w member j i q. mem-remove k messages (grants-front (remove k messages) _ (leaving-none me (old me) a) w member j i q))
+        (λ w member q. mem-remove k messages (grants-front (remove k messages) _ (leaving-none me (old me) a) w member q))
       where
         free : new me .lender ≡ nobody
         free = ap (λ (r : Room). r .lender) here
@@ -194,7 +195,7 @@ module _ (n : ℕ) (old new : ℕ → Room) (messages : List Wire) (me : ℕ) (l
     reduce-tree l m is here =
         tree-less n old new messages (remove k messages) t
         (λ c low some untold. (lender-same lender c, untold-taken c messages k _ is (λ q. absurd (false≢true q)) untold))
-        (λ w member j i q. mem-remove k messages member)
+        (λ w member q. mem-remove k messages member)
       where
         lender : new me .lender ≡ old me .lender
         lender =

@@ -1,5 +1,4 @@
 pub mod Tree
-pub mod Owns
 pub mod Folds
 pub mod Root
 pub mod Dominance

@@ -1,6 +1,7 @@
 -- Two ways to rank anew: a room becomes the lowest of all, or a room without children is put above another.
 use mathlib.Core.Path.{_≡_, refl, _∙_, ap}
 use mathlib.Core.Logic.{_⊎_, inl, inr, _≢_}
+use mathlib.Core.Bool.{true}
 use mathlib.Core.List.{List}
 use Prim.Native.Nat.{ℕ, suc, _<_}
 use native.Mathlib.Omega.{arith}
@@ -12,8 +13,8 @@ use Rattle.base.specs.Lists.{Mem}
 use Rattle.room.specs.declared.Room.{Room}
 use Rattle.room.specs.Limits.{nobody}
 use Rattle.table.specs.declared.Wire.{Wire}
-use Rattle.table.specs.declared.Message.the-variants as msg
-use Rattle.tree.specs.Tree.{NoTokenTo, Tree}
+use Rattle.tree.specs.Tree.{NoTokenTo, isGrant, Tree}
+use Rattle.tree.specs.Frames.{GrantsIn}
 
 -- r gets 0, everyone else one more
 unfoldable pub rerooted : (ℕ → ℕ) → ℕ → ℕ → ℕ
@@ -65,7 +66,7 @@ module _ (rank : ℕ → ℕ) (y b : ℕ) where
 module _ (n : ℕ) (old new : ℕ → Room) (messages after : List Wire) (t : Tree n old messages) where
   -- the same ranks: each lender that a room still has, and each GRANT, is of before
   pub tree-less : ((c : ℕ) → c < n → new c .lender ≢ nobody → NoTokenTo c after → (new c .lender ≡ old c .lender) × NoTokenTo c messages)
-      → ((w : Wire) → Mem w after → (m l : ℕ) → w .message ≡ msg.Grant m l → Mem w messages) → Tree n new after
+      → GrantsIn after messages → Tree n new after
   tree-less lenders grants =
       record {
         rank = t .rank;
@@ -73,20 +74,20 @@ module _ (n : ℕ) (old new : ℕ → Room) (messages after : List Wire) (t : Tr
             λ c low some untold.
             let k = lenders c low some untold in
             rw (k .0) (t .lender c low (λ e. some (k .0 ∙ e)) (k .1));
-        grant = λ w member m l is. t .grant w (grants w member m l is) m l is;
+        grant = λ w member is. t .grant w (grants w member is) is;
       }
 
   -- r as the lowest: it has no lender and gets no GRANT, and what is new is lent by it
   pub tree-rerooted : (r : ℕ)
       → ((c : ℕ) → c < n → new c .lender ≢ nobody → NoTokenTo c after
       → (c ≢ r) × ((new c .lender ≡ r) ⊎ ((new c .lender ≡ old c .lender) × NoTokenTo c messages)))
-      → ((w : Wire) → Mem w after → (m l : ℕ) → w .message ≡ msg.Grant m l → (w .to ≢ r) × ((w .«from» ≡ r) ⊎ Mem w messages))
+      → ((w : Wire) → Mem w after → isGrant (w .message) ≡ true → (w .to ≢ r) × ((w .«from» ≡ r) ⊎ Mem w messages))
       → Tree n new after
   tree-rerooted r lenders grants =
       record {
         rank = rerooted (t .rank) r;
         lender = λ c low some untold. by-lender c low some (lenders c low some untold .0) (lenders c low some untold .1);
-        grant = λ w member m l is. by-grant w m l is (grants w member m l is .0) (grants w member m l is .1);
+        grant = λ w member is. by-grant w is (grants w member is .0) (grants w member is .1);
       }
     where
       by-lender : (c : ℕ) → c < n → new c .lender ≢ nobody → c ≢ r
@@ -96,16 +97,16 @@ module _ (n : ℕ) (old new : ℕ → Room) (messages after : List Wire) (t : Tr
       by-lender c low some ne (inr (e, untold)) =
           rw e (rerooted-falls (t .rank) r (old c .lender) c ne (t .lender c low (λ k. some (e ∙ k)) untold))
 
-      by-grant : (w : Wire) (m l : ℕ) → w .message ≡ msg.Grant m l → w .to ≢ r → (w .«from» ≡ r) ⊎ Mem w messages
+      by-grant : (w : Wire) → isGrant (w .message) ≡ true → w .to ≢ r → (w .«from» ≡ r) ⊎ Mem w messages
           → rerooted (t .rank) r (w .«from») < rerooted (t .rank) r (w .to)
-      by-grant w m l is ne (inl e) = omega (arith, ap (rerooted (t .rank) r) e, rerooted-root (t .rank) r (w .to) ne)
-      by-grant w m l is ne (inr member) = rerooted-falls (t .rank) r (w .«from») (w .to) ne (t .grant w member m l is)
+      by-grant w is ne (inl e) = omega (arith, ap (rerooted (t .rank) r) e, rerooted-root (t .rank) r (w .to) ne)
+      by-grant w is ne (inr member) = rerooted-falls (t .rank) r (w .«from») (w .to) ne (t .grant w member is)
 
   -- y above b: y has no lender, lends nothing, and gets no GRANT but of b
   pub tree-attached : (y b : ℕ) → b ≢ y
       → ((c : ℕ) → c < n → new c .lender ≢ nobody → NoTokenTo c after
       → (c ≢ y) × (new c .lender ≢ y) × (new c .lender ≡ old c .lender) × NoTokenTo c messages)
-      → ((w : Wire) → Mem w after → (m l : ℕ) → w .message ≡ msg.Grant m l
+      → ((w : Wire) → Mem w after → isGrant (w .message) ≡ true
       → ((w .«from» ≡ b) × (w .to ≡ y)) ⊎ ((w .«from» ≢ y) × (w .to ≢ y) × Mem w messages))
       → Tree n new after
   tree-attached y b ne lenders grants =
@@ -115,11 +116,11 @@ module _ (n : ℕ) (old new : ℕ → Room) (messages after : List Wire) (t : Tr
             λ c low some untold.
             let k = lenders c low some untold in
             attached-falls (t .rank) y b (new c .lender) c (k .1) (k .0) (rw (k .2) (t .lender c low (λ e. some (k .2 ∙ e)) (k .3)));
-        grant = λ w member m l is. by-grant w m l is (grants w member m l is);
+        grant = λ w member is. by-grant w is (grants w member is);
       }
     where
-      by-grant : (w : Wire) (m l : ℕ) → w .message ≡ msg.Grant m l
+      by-grant : (w : Wire) → isGrant (w .message) ≡ true
           → ((w .«from» ≡ b) × (w .to ≡ y)) ⊎ ((w .«from» ≢ y) × (w .to ≢ y) × Mem w messages)
           → attached (t .rank) y b (w .«from») < attached (t .rank) y b (w .to)
-      by-grant w m l is (inl (e, f)) = omega (arith, attached-new (t .rank) y b ne, ap (attached (t .rank) y b) e, ap (attached (t .rank) y b) f)
-      by-grant w m l is (inr (p, q, member)) = attached-falls (t .rank) y b (w .«from») (w .to) p q (t .grant w member m l is)
+      by-grant w is (inl (e, f)) = omega (arith, attached-new (t .rank) y b ne, ap (attached (t .rank) y b) e, ap (attached (t .rank) y b) f)
+      by-grant w is (inr (p, q, member)) = attached-falls (t .rank) y b (w .«from») (w .to) p q (t .grant w member is)

@@ -2,6 +2,7 @@
 use crate::command::Command;
 use crate::command::byte;
 use crate::command::link;
+use crate::message;
 use crate::words;
 use room::Entry;
 use room::ROOMS;
@@ -54,7 +55,8 @@ fn changed_room(mut r: Room, c: Command) -> Room {
         words::COUNTER => {
             r.counter = link(c.b);
         }
-        _ => return with_entry(r, c),
+        words::ENTRY => return with_entry(r, c),
+        _ => words::unknown(),
     }
     r
 }
@@ -70,34 +72,23 @@ fn with_room(mut t: Table, c: Command) -> Table {
     t
 }
 
-// A place of the queue by its numbers.
-fn queued(room: usize, mode: usize) -> Queued {
-    Queued {
-        room: byte(room),
-        mode: byte(mode),
-    }
-}
-
-// Place i of the queue.
+// Another place i of the queue, or one more where there is no such place.
 fn with_place(mut t: Table, i: usize, q: Queued) -> Table {
-    if i < QUEUE {
-        t.queue[i] = q;
+    let mut at = i;
+    if i >= QUEUE {
+        at = t.queued;
+        if at < QUEUE {
+            t.queued = at + 1;
+        }
     }
-    t
-}
-
-// A room joins the end of the queue.
-fn with_joined(mut t: Table, q: Queued) -> Table {
-    let at = t.queued;
-    t = with_place(t, at, q);
     if at < QUEUE {
-        t.queued = at + 1;
+        t.queue[at] = q;
     }
     t
 }
 
 // Another message on wire i, or one more where there is no such wire.
-pub fn with_message(mut t: Table, i: usize, w: Wire) -> Table {
+fn with_message(mut t: Table, i: usize, w: Wire) -> Table {
     let mut at = i;
     if i >= WIRES {
         at = t.count;
@@ -128,49 +119,36 @@ fn with_reduces(mut t: Table, count: usize) -> Table {
     t
 }
 
-// A fresh table of n rooms.
-fn fresh(n: usize) -> Table {
-    let a = table::fresh(byte(n));
-    a.table
-}
-
-// Other sizes: of the rooms, the queue or the messages.
-fn with_size(mut t: Table, word: u64, value: usize) -> Table {
-    match word {
-        words::ROOMS => {
-            t.n = byte(value);
-        }
-        words::QUEUED => {
-            t.queued = value;
-        }
-        words::COUNT => {
-            t.count = value;
-        }
-        _ => {}
-    }
-    t
-}
-
-// Whether a word changes a table.
-pub fn changes(word: u64) -> bool {
-    match word {
-        words::FRESH | words::FILL | words::JOIN | words::PLACE => true,
-        words::ROOMS | words::QUEUED | words::COUNT => true,
-        words::HELD | words::WANTED | words::TOKEN | words::TOWARD => true,
-        words::LENDER | words::CREDIT | words::LINK | words::COUNTER | words::ENTRY => true,
-        _ => false,
+// A place of the queue by its numbers.
+fn queued(room: usize, mode: usize) -> Queued {
+    Queued {
+        room: byte(room),
+        mode: byte(mode),
     }
 }
 
-// A fresh table, or one with another queue, other messages, other sizes, or another record of a room.
-pub fn changed(t: Table, c: Command) -> Table {
+// A table with another queue, other messages, other sizes, or another record of a room. A message is laid on the wire given.
+pub fn changed(mut t: Table, wire: usize, c: Command) -> Table {
     let word = c.word;
     match word {
-        words::FRESH => fresh(c.a),
+        words::REQUEST | words::GRANT | words::PASS | words::REDUCE | words::NOTHING => {
+            with_message(t, wire, message::wire(c))
+        }
         words::FILL => with_reduces(t, c.a),
-        words::JOIN => with_joined(t, queued(c.a, c.b)),
+        words::JOIN => with_place(t, QUEUE, queued(c.a, c.b)),
         words::PLACE => with_place(t, c.a, queued(c.b, c.c)),
-        words::ROOMS | words::QUEUED | words::COUNT => with_size(t, word, c.a),
+        words::ROOMS => {
+            t.n = byte(c.a);
+            t
+        }
+        words::QUEUED => {
+            t.queued = c.a;
+            t
+        }
+        words::COUNT => {
+            t.count = c.a;
+            t
+        }
         _ => with_room(t, c),
     }
 }

@@ -5,14 +5,11 @@ use crate::desk;
 use crate::desk::Desk;
 use bytes::scan::find;
 
-// A line's label, the number that its last event gave back, and what went wrong.
-fn show(label: &[u8], number: u8, fault: bool) {
+// A line's label, and the number that its last command gave back.
+fn show(label: &[u8], number: u8) {
     io::write_all(1, label);
     io::write_all(1, b": ");
     io::print_decimal(1, number as u64);
-    if fault {
-        io::write_all(1, b", a word not understood");
-    }
     io::write_all(1, b"\n");
 }
 
@@ -33,34 +30,21 @@ fn obey_all(mut d: Desk, line: &[u8], from: usize) -> Desk {
     desk::obey(d, c)
 }
 
-// The place of a line's colon; its length where there is none, and for a remark.
-fn colon(line: &[u8]) -> usize {
-    let end = line.len();
-    if end > 0 {
-        if line[0] == b'#' {
-            return end;
-        }
-    }
-    find(line, 0, end, b':')
-}
-
-// What a line gave is printed, where it has a label.
-fn told(mut d: Desk, label: &[u8]) -> Desk {
-    if label.len() > 0 {
-        show(label, d.number, d.fault);
-        d.fault = false;
-    }
-    d
-}
-
 // One line.
 fn take(mut d: Desk, line: &[u8]) -> Desk {
-    let end = colon(line);
-    if end >= line.len() {
+    let end = line.len();
+    let colon = find(line, 0, end, b':');
+    if colon >= end {
         return d;
     }
-    d = obey_all(d, line, end + 1);
-    told(d, &line[..end])
+    if line[0] == b'#' {
+        return d;
+    }
+    d = obey_all(d, line, colon + 1);
+    if colon > 0 {
+        show(&line[..colon], d.number);
+    }
+    d
 }
 
 // All lines.

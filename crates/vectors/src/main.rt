@@ -4,6 +4,7 @@ mod change; // change.rt: a table with one thing changed
 mod command; // command.rt: a command, read byte by byte
 mod desk; // desk.rt: the table at hand, and what a command does to it
 mod lines; // lines.rt: the lines of the input
+mod message; // message.rt: the message of a command
 mod words; // words.rt: the words of the commands
 
 fn main() {

@@ -58,3 +58,8 @@ pub const ROOMS: u64 = 0x72_6f_6f_6d_73; // rooms
 pub const QUEUED: u64 = 0x71_75_65_75_65_64; // queued
 
 pub const COUNT: u64 = 0x63_6f_75_6e_74; // count
+
+// A word that is none of these: what is printed is then not what is expected.
+pub fn unknown() {
+    io::write_all(1, b"a word not understood\n");
+}

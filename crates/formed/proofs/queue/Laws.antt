@@ -7,9 +7,9 @@ use lib.Dec.{eqb}
 use borrow.Author.Tests.{lt-ltb, le-ltb, ne-eqb, not-true, not-false}
 use Rattle.table.specs.declared.Queued.{Queued}
 use Rattle.table.specs.Formed.{isMode, due, queuedFine, isBlankQueued}
-use Rattle.formed.specs.declared.rooms.Standing.{Standing}
-use Rattle.formed.specs.Seen.{standingAt}
-use Rattle.formed.specs.Names.{queuePlaceFine}
+use Rattle.records.specs.declared.Standing.{Standing}
+use Rattle.formed.specs.Standings.{standingAt}
+use Rattle.formed.specs.Parts.{queuePlaceFine}
 
 module _ (n : ℕ) (rooms : List Standing) (used : Bool) (q : Queued) where
   -- a place that is not in use

@@ -15,11 +15,13 @@ use Rattle.base.specs.Lists.{count, total-none}
 use Rattle.table.specs.declared.Queued.{Queued}
 use Rattle.table.specs.Tables.{noQueued}
 use Rattle.table.specs.Formed.{isMode, due, queuedFine}
-use Rattle.formed.specs.declared.rooms.Standing.{Standing}
-use Rattle.formed.specs.Seen.{standingAt, roomsOf}
-use Rattle.formed.specs.Names.{queuePlaceFine, namedIn}
-use Rattle.formed.proofs.Lists.{listed-is, prefix-low, prefix-all, prefix-next}
-use Rattle.formed.proofs.rooms.Laws.{standing-past}
+use Rattle.records.specs.declared.Standing.{Standing}
+use Rattle.formed.specs.Standings.{standingAt, roomsOf}
+use Rattle.formed.specs.Parts.{queuePlaceFine}
+use Rattle.formed.specs.Names.{namedIn}
+use Rattle.records.proofs.Lists.{listed-is}
+use Rattle.formed.proofs.Lists.{prefix-low, prefix-all, prefix-next}
+use Rattle.formed.proofs.Laws.{standing-past}
 use Rattle.formed.proofs.Counted.{Counted}
 
 -- how many of the first i places, of those in use, name the room c

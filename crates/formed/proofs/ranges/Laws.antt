@@ -1,21 +1,15 @@
 -- A law for each branch of the tests of ranges, over plain numbers.
-use mathlib.Core.Path.{_≡_, sym}
+use mathlib.Core.Path.{_≡_}
 use mathlib.Core.Bool.{true, false, and-false}
 use Prim.Native.Nat.{ℕ, _≤_, _<_}
 use native.Mathlib.Omega.{arith}
 use lib.Dec.{leb, eqb}
 use borrow.Author.Tests.{le-leb, lt-leb, eq-eqb, ne-eqb, eqb-false}
 use Rattle.base.specs.Choice.{split}
-use Rattle.table.specs.Formed.{isCode, isMode, sizesFit}
+use Rattle.table.specs.Formed.{isMode, sizesFit}
 use Rattle.formed.specs.Parts.{isGranted}
 
 module _ (m : ℕ) where
-  pub code-low : m < 6 → true ≡ isCode m
-  code-low h = sym (le-leb m 5 (omega arith))
-
-  pub code-high : 6 ≤ m → false ≡ isCode m
-  code-high h = sym (lt-leb m 5 (omega arith))
-
   pub mode-none : m ≡ 0 → false ≡ isMode m
   mode-none h = rw h
 

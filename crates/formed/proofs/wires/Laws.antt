@@ -5,14 +5,15 @@ use mathlib.Core.List.{List}
 use Prim.Native.Nat.{ℕ, _≤_, _<_}
 use lib.Dec.{ltb, eqb}
 use borrow.Author.Tests.{lt-ltb, le-ltb, eq-eqb, ne-eqb, not-true, not-false}
+use Rattle.modes.specs.Codes.{isCode}
 use Rattle.table.specs.declared.Wire.{Wire}
 use Rattle.table.specs.declared.Message.{Message}
 use Rattle.table.specs.declared.Message.the-variants as msg
-use Rattle.table.specs.Formed.{isCode, isMode, due, messageFine, namesRightly, wireFine, isNothing, isBlankWire}
-use Rattle.formed.specs.declared.rooms.Standing.{Standing}
-use Rattle.formed.specs.Parts.{isGranted}
-use Rattle.formed.specs.Seen.{standingAt, roomsOf}
-use Rattle.formed.specs.Names.{wirePlaceFine, carriedBy}
+use Rattle.table.specs.Formed.{isMode, due, messageFine, namesRightly, wireFine, isNothing, isBlankWire}
+use Rattle.records.specs.declared.Standing.{Standing}
+use Rattle.formed.specs.Standings.{standingAt, roomsOf}
+use Rattle.formed.specs.Parts.{isGranted, wirePlaceFine}
+use Rattle.formed.specs.Names.{carriedBy}
 
 -- the codes and the room number in a message
 module _ (n : ℕ) (m : Message) where

@@ -11,8 +11,8 @@ use lib.Dec.{ltb}
 use Rattle.base.specs.Below.{allBelow, all-more}
 use Rattle.table.specs.declared.Queued.{Queued}
 use Rattle.table.specs.Tables.{noQueued}
-use Rattle.formed.specs.declared.rooms.Standing.{Standing}
-use Rattle.formed.specs.Names.{queuePlaceFine}
+use Rattle.records.specs.declared.Standing.{Standing}
+use Rattle.formed.specs.Parts.{queuePlaceFine}
 use Rattle.formed.proofs.Counted.{Counted, counted-raised, counted-kept}
 use Rattle.formed.proofs.queue.Times.{placesNaming, naming-none, naming-used, naming-unused, naming-low, names-low, named-ill, named-all}
 use Rattle.formed.proofs.queue.look_over.Statement.{statement}

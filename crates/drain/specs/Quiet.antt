@@ -1,0 +1,88 @@
+-- A quiet table: nothing is under way, and whoever holds waits. From any other some delivery or hand-back is accepted.
+use mathlib.Core.Path.{_≡_, refl, subst⁻¹}
+use mathlib.Core.Logic.{_≢_, _⊎_, inl, inr, ⊎-elim}
+use mathlib.Core.Bool.{Bool, true, false, not, _&&_}
+use mathlib.Core.List.{List, [], _∷_}
+use Prim.Native.Nat.{ℕ, zero, suc, _<_}
+use native.Mathlib.Nat.{le-of-suc-le-suc, not-suc-le-zero, eq-or-lt-of-le}
+use native.Mathlib.Omega.{arith}
+use lib.Dec.{eqb}
+use borrow.Author.Tests.{eq-eqb, ne-eqb, eqb-true, eqb-false, not-true}
+use Rattle.base.specs.Choice.{split}
+use Rattle.base.specs.Tests.{and-left, and-right, clash}
+use Rattle.table.specs.declared.Table.{Table}
+use Rattle.table.specs.declared.Wire.{Wire}
+use Rattle.table.specs.declared.Found.the-variants as found
+use Rattle.table.specs.Numbers.{DONE}
+use Rattle.table.specs.Tables.{roomAt, messagesOf}
+use Rattle.table.specs.Oldest.{oldestIn, oldestOf}
+use Rattle.rules.specs.declared.Event.{Event}
+use Rattle.rules.specs.Events.{HANDBACK, DELIVER}
+use Rattle.rules.specs.Step.{stepOf}
+use Rattle.safe.specs.Reached.{Reached}
+use Rattle.safe.specs.Always.{reached-safe, delivery-accepted, hand-back-accepted}
+use Rattle.drain.specs.Drains.{isDraining}
+
+pub record Quiet (t : Table) : Type 0 where
+  pub still : messagesOf t ≡ []
+  pub waits : (c : ℕ) → c < t .n → roomAt t c .held ≢ 0 → roomAt t c .wanted ≢ 0
+
+-- some delivery or hand-back is accepted
+abbrev pub Moves : Table → Type 0
+Moves t = (e : Event) × (isDraining e ≡ true) × (stepOf t e .«number» ≡ DONE)
+
+-- DELIVER(a, b) and HANDBACK(c)
+abbrev delivery : ℕ → ℕ → Event
+delivery a b = record { kind = DELIVER; room = a; other = b; mode = 0 }
+
+abbrev handing : ℕ → Event
+handing c = record { kind = HANDBACK; room = c; other = 0; mode = 0 }
+
+-- some number below n passes a test, or none does
+pub some-or-none : (n : ℕ) (p : ℕ → Bool) → ((i : ℕ) × (i < n) × (p i ≡ true)) ⊎ ((i : ℕ) → i < n → p i ≡ false)
+some-or-none zero p = inr (λ i h. absurd (not-suc-le-zero h))
+some-or-none (suc n) p = split (p n) (λ q. inl (n, omega arith, q)) (λ q. go q (some-or-none n p))
+  where
+    go : p n ≡ false → ((i : ℕ) × (i < n) × (p i ≡ true)) ⊎ ((i : ℕ) → i < n → p i ≡ false)
+        → ((i : ℕ) × (i < suc n) × (p i ≡ true)) ⊎ ((i : ℕ) → i < suc n → p i ≡ false)
+    go q (inl (i, h, s)) = inl (i, omega arith, s)
+    go q (inr f) = inr (λ i h. ⊎-elim (λ e. subst⁻¹ (λ (m : ℕ). p m ≡ false) e q) (f i) (eq-or-lt-of-le (le-of-suc-le-suc h)))
+
+-- the first message of all is the oldest on its wire
+first-found : (t : Table) (w : Wire) (l : List Wire) → messagesOf t ≡ w ∷ l → oldestOf t (w .«from») (w .to) ≡ found.At 0 (w .message)
+unfolding oldestOf oldestIn
+first-found t w l h = rw (h, eq-eqb (w .«from») (w .«from») refl, eq-eqb (w .to) (w .to) refl) refl
+
+module _ (n : ℕ) (t : Table) (r : Reached n t) where
+  -- whether room c holds and does not wait
+  isFree : ℕ → Bool
+  isFree c = not (eqb (roomAt t c .held) 0) && eqb (roomAt t c .wanted) 0
+
+  free-moves : (c : ℕ) → c < t .n → isFree c ≡ true → Moves t
+  unfolding isFree isDraining
+  free-moves c low h = (handing c, refl, hand-back-accepted n t r (handing c) refl (omega (arith, reached-safe n t r .rooms)) holds idle)
+    where
+      holds : roomAt t c .held ≢ 0
+      holds = eqb-false _ _ (not-true _ (and-left _ _ h))
+
+      idle : roomAt t c .wanted ≡ 0
+      idle = eqb-true _ _ (and-right (not (eqb (roomAt t c .held) 0)) _ h)
+
+  wire-moves : (w : Wire) (l : List Wire) → messagesOf t ≡ w ∷ l → Moves t
+  unfolding isDraining
+  wire-moves w l h =
+      (delivery (w .«from») (w .to), refl, delivery-accepted n t r (delivery (w .«from») (w .to)) refl 0 (w .message) (first-found t w l h))
+
+  -- whoever is not free and holds waits
+  bound-waits : ((c : ℕ) → c < t .n → isFree c ≡ false) → (c : ℕ) → c < t .n → roomAt t c .held ≢ 0 → roomAt t c .wanted ≢ 0
+  unfolding isFree
+  bound-waits f c low holds idle = clash (rw (ne-eqb _ _ holds, idle) refl) (f c low)
+
+  -- each reached table is quiet, or some delivery or hand-back is accepted
+  pub quiet-or-moves : Quiet t ⊎ Moves t
+  quiet-or-moves = go (messagesOf t) refl (some-or-none (t .n) isFree)
+    where
+      go : (l : List Wire) → messagesOf t ≡ l → ((c : ℕ) × (c < t .n) × (isFree c ≡ true)) ⊎ ((c : ℕ) → c < t .n → isFree c ≡ false) → Quiet t ⊎ Moves t
+      go (w ∷ l) h s = inr (wire-moves w l h)
+      go [] h (inl (c, low, f)) = inr (free-moves c low f)
+      go [] h (inr f) = inl (record { still = h; waits = bound-waits f })

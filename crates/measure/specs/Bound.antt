@@ -1,0 +1,122 @@
+-- How large the measure can be, with heights below n and nothing in hand.
+use mathlib.Core.Path.{_≡_, refl, ap}
+use mathlib.Core.Bool.{Bool, true, false}
+use mathlib.Core.List.{List, [], _∷_, List·Memᴰ·head, List·Memᴰ·tail}
+use Prim.Native.Nat.{ℕ, _+_, _*_, _-_, _≤_, _<_}
+use native.Mathlib.Nat.{mul-one, mul-add, add-mul, mul-left-comm, mul-le-mul-right}
+use native.Mathlib.Omega.{arith}
+use lib.Dec.{ltb}
+use lib.ListN.{length}
+use Rattle.base.specs.Choice.{if_then_else_}
+use Rattle.base.specs.Sums.{one, sum-le, sum-add, sum-bound, countBelow, count-below-le}
+use Rattle.base.specs.Lists.{total, count, Mem}
+use Rattle.room.specs.declared.Room.{Room}
+use Rattle.table.specs.declared.Wire.{Wire}
+use Rattle.table.specs.declared.Queued.{Queued}
+use Rattle.table.specs.declared.Message.{Message}
+use Rattle.table.specs.declared.Message.the-variants as msg
+use Rattle.table.specs.Formed.{isToken}
+use Rattle.facts.specs.Moments.{Formed}
+use Rattle.facts.specs.Names.{isNaming, names-bound}
+use Rattle.bounds.specs.Bounds.{level, isRequest}
+use Rattle.bounds.specs.Weights.{requests, level-le}
+use Rattle.measure.specs.Measure.{pending, tokensIn, charge, follow, holdWeight, above, extra, pile, nothing, own, load, potential}
+
+-- how many messages name a room
+abbrev pub naming : List Wire → ℕ
+naming messages = count (λ w. isNaming (w .message)) messages
+
+-- how many rooms hold
+abbrev pub holding : ℕ → (ℕ → Room) → ℕ
+holding n rooms = countBelow n (λ c. ltb 0 (rooms c .held))
+
+-- a REQUEST and a TOKEN name rooms
+kinds : (m : Message) → one (isRequest m) + one (isToken m) ≤ one (isNaming m)
+unfolding isRequest isToken isNaming
+kinds msg.Nothing = omega arith
+kinds (msg.Request o m idle) = omega arith
+kinds (msg.Grant m l) = omega arith
+kinds (msg.Token m rest l) = omega arith
+kinds (msg.Reduce l m) = omega arith
+
+kinds-all : (l : List Wire) → requests l + tokensIn l ≤ naming l
+unfolding total
+kinds-all [] = omega arith
+kinds-all (w ∷ l) = omega (arith, kinds (w .message), kinds-all l)
+
+-- a message costs 1; if it names a room 3 more; a REQUEST instead of those as much as `cap` says
+charge-most : (share more cap : ℕ) (m : Message) → share + more ≤ cap + 1
+    → charge share more m + 3 * one (isRequest m) ≤ one (isRequest m) * cap + 1 + 3 * one (isNaming m)
+unfolding charge isRequest isNaming
+charge-most share more cap msg.Nothing h = omega arith
+charge-most share more cap (msg.Request o m idle) h = omega arith
+charge-most share more cap (msg.Grant m l) h = omega arith
+charge-most share more cap (msg.Token m rest l) h = omega arith
+charge-most share more cap (msg.Reduce l m) h = omega arith
+
+pile-most : (height : ℕ → ℕ) (share flag cap : ℕ) (behind : Wire → Bool) (l : List Wire)
+    → ((w : Wire) → Mem w l → share + (height (w .to) + flag) ≤ cap + 1)
+    → pile height share flag behind l + 3 * requests l ≤ requests l * cap + length l + 3 * naming l
+unfolding pile total above
+pile-most height share flag cap behind [] h = omega arith
+pile-most height share flag cap behind (w ∷ l) h = omega (
+  arith,
+  charge-most share (extra height flag behind w) cap (w .message) (most (behind w)),
+  pile-most height share flag cap (follow behind w) l (λ v i. h v (List·Memᴰ·tail i)),
+  add-mul (one (isRequest (w .message))) (requests l) cap,
+)
+  where
+    most : (b : Bool) → share + above b (height (w .to)) flag ≤ cap + 1
+    most true = omega (arith, h w (List·Memᴰ·head refl))
+    most false = omega (arith, h w (List·Memᴰ·head refl))
+
+-- the largest cost of a REQUEST, n times
+square : (n : ℕ) → 1 ≤ n → n * (2 * n - 1) + n ≡ 2 * (n * n)
+square n some = omega (
+  arith,
+  mul-add n (2 * n - 1) 1,
+  mul-one n,
+  ap (λ (k : ℕ). n * k) whole,
+  mul-left-comm n 2 n,
+)
+  where
+    whole : 2 * n - 1 + 1 ≡ 2 * n
+    whole = omega arith
+
+module _ (n : ℕ) (some : 1 ≤ n) (rooms : ℕ → Room) (queue : List Queued) (messages : List Wire) (f : Formed n rooms queue messages)
+    (height : ℕ → ℕ) (below : (c : ℕ) → c < n → height c < n) where
+  -- by the names and the rooms that hold
+  pub potential-within : potential n rooms queue messages 0 height + n
+      ≤ 2 * (n * n) + 4 * (length queue + naming messages) + holding n rooms + 2 * n + length messages
+  unfolding potential load own
+  potential-within = omega (
+    arith,
+    pile-most height (1 + pending queue messages 0) (tokensIn messages) (2 * n - 1) nothing messages most,
+    mul-le-mul-right (2 * n - 1) few,
+    square n some,
+    kinds-all messages,
+    sum-add n (λ c. holdWeight * one (ltb 0 (rooms c .held))) (λ c. level (rooms c .credit)),
+    sum-le n (λ c. holdWeight * one (ltb 0 (rooms c .held))) (λ c. one (ltb 0 (rooms c .held))) (λ c h. omega arith),
+    sum-bound n 2 (λ c. level (rooms c .credit)) (λ c h. level-le (rooms c .credit)),
+  )
+    where
+      names : length queue + naming messages ≤ n
+      names = names-bound n rooms queue messages f
+
+      few : requests messages ≤ n
+      few = omega (arith, kinds-all messages, names)
+
+      most : (w : Wire) → Mem w messages → 1 + pending queue messages 0 + (height (w .to) + tokensIn messages) ≤ 2 * n - 1 + 1
+      most w i = omega (arith, names, kinds-all messages, below (w .to) (f .message w i .to-low))
+
+  pub potential-bound : potential n rooms queue messages 0 height ≤ 2 * (n * n) + 6 * n + length messages
+  potential-bound = omega (
+    arith,
+    potential-within,
+    names-bound n rooms queue messages f,
+    count-below-le n (λ c. ltb 0 (rooms c .held)),
+  )
+
+  -- "3n² + 8n + m"
+  pub potential-limit : potential n rooms queue messages 0 height ≤ 3 * (n * n) + 8 * n + length messages
+  potential-limit = omega (arith, potential-bound)

@@ -1,0 +1,44 @@
+-- The rules for a room's record that go by a test: what holds of both outcomes holds.
+use mathlib.Core.Logic.{_≢_}
+use mathlib.Core.Bool.{_||_, _&&_}
+use mathlib.Core.List.{List, [], _∷_}
+use Prim.Native.Nat.{ℕ}
+use lib.Dec.{eqb}
+use borrow.Author.Tests.{eq-eqb}
+use Rattle.base.specs.Choice.{by-test}
+use Rattle.base.specs.Tests.{or-left, clash}
+use Rattle.modes.specs.Modes.{isStronger}
+use Rattle.room.specs.declared.Room.{Room}
+use Rattle.room.specs.Limits.{nobody}
+use Rattle.room.specs.Record.{entryOf, entryAt, withDebt, setEntry}
+use Rattle.room.specs.Rules.{nextLink, left, remaining, passedTo, credited, reduced}
+use Rattle.table.specs.declared.Wire.{Wire}
+use Rattle.table.specs.declared.Message.the-variants as msg
+use Rattle.facts.specs.Wires.{wire, leavingSent}
+
+-- to the old lender: nothing, or a REDUCE from a room that has one
+pub leaving-either : (me : ℕ) (r : Room) (a : ℕ) (P : List Wire → Type 0) → P []
+    → (r .lender ≢ nobody → P (wire me (r .lender) (msg.Reduce (r .link) 0) ∷ [])) → P (leavingSent me r a)
+unfolding leavingSent
+leaving-either me r a P p q =
+    by-test P (eqb (r .lender) nobody || eqb (r .lender) a) [] (wire me (r .lender) (msg.Reduce (r .link) 0) ∷ []) (λ e. p)
+    (λ e. q (λ h. clash (or-left (eqb (r .lender) nobody) (eqb (r .lender) a) (eq-eqb (r .lender) nobody h)) e))
+
+-- a pass: something remains or not
+pub passed-either : (r : Room) (y : ℕ) (P : Room → Type 0) → P (left r y) → P (withDebt (left r y) y (remaining r y) (nextLink (r .counter)))
+    → P (passedTo r y)
+unfolding passedTo
+passed-either r y P p q =
+    by-test P (eqb (remaining r y) 0) (left r y) (withDebt (left r y) y (remaining r y) (nextLink (r .counter))) (λ e. p) (λ e. q)
+
+-- a settling: to none, or to a weaker mode
+pub credited-either : (r : Room) (m : ℕ) (P : Room → Type 0) → P (withDebt r nobody m 0) → P (withDebt r (r .lender) m (r .link))
+    → P (credited r m)
+unfolding credited
+credited-either r m P p q = by-test P (eqb m 0) (withDebt r nobody m 0) (withDebt r (r .lender) m (r .link)) (λ e. p) (λ e. q)
+
+-- a REDUCE: taken, or dropped
+pub reduced-either : (r : Room) (a l m : ℕ) (P : Room → Type 0) → P (setEntry r a (entryOf m l)) → P r → P (reduced r a l m)
+unfolding reduced
+reduced-either r a l m P p q =
+    by-test P (eqb (entryAt r a .link) l && isStronger (entryAt r a .mode) m) (setEntry r a (entryOf m l)) r (λ e. p) (λ e. q)

@@ -1,0 +1,13 @@
+pub mod Cases
+pub mod Way
+pub mod Heights
+pub mod Squeeze
+pub mod Start
+pub mod Measure
+pub mod Behind
+pub mod Piles
+pub mod Loads
+pub mod Moves
+pub mod Falls
+pub mod Bound
+pub mod Tight

@@ -1,0 +1,53 @@
+-- A run of events from a fresh table: what is given back, and what holds of the table.
+use Prim.Native.Nat.{ℕ, _≤_}
+use mathlib.Core.Path.{_≡_}
+use mathlib.Core.Bool.{true}
+use mathlib.Core.List.{List, [], _∷_}
+use lib.Dec.{eqb}
+use Rattle.base.specs.Choice.{if_then_else_, decided}
+use Rattle.room.specs.Limits.{roomLimit}
+use Rattle.table.specs.declared.Table.{Table}
+use Rattle.table.specs.declared.Answer.{Answer}
+use Rattle.table.specs.Numbers.{DONE}
+use Rattle.table.specs.Tables.{answer, freshOf}
+use Rattle.table.specs.Formed.{wellFormed}
+use Rattle.rules.specs.declared.Event.{Event}
+use Rattle.rules.specs.Step.{runs}
+use Rattle.safe.specs.Reached.{Reached, Demand3}
+
+-- events in bytes, four for each: kind, room, other and mode; what is left at the end is no event
+unfoldable pub eventsOf : List ℕ → List Event
+eventsOf [] = []
+eventsOf (kind ∷ []) = []
+eventsOf (kind ∷ room ∷ []) = []
+eventsOf (kind ∷ room ∷ other ∷ []) = []
+eventsOf (kind ∷ room ∷ other ∷ mode ∷ rest) = record { kind = kind; room = room; other = other; mode = mode } ∷ eventsOf rest
+
+-- events made on a fresh table; on a refused one none is made
+unfoldable pub continued : Answer → List Event → Answer
+continued a events = if eqb (a .«number») DONE then answer DONE (runs (a .table) events) else a
+
+-- the number given to the fresh table, and the table after all events
+unfoldable pub ranOf : ℕ → List Event → Answer
+ranOf n events = continued (freshOf n) events
+
+-- MESSAGES: the 96 at which an ASK is refused, and five for each of 16 rooms
+abbrev pub mostMessages : ℕ
+mostMessages = 176
+
+-- What holds of a table that events lead to from a fresh one of n rooms.
+pub record Holds (n : ℕ) (t : Table) : Type 0 where
+  pub reached : Reached n t
+  -- "there is always exactly one token, with one room or on one wire, and modes held by two rooms agree"
+  pub demand3 : Demand3 n t
+  pub formed : wellFormed t ≡ true
+  pub few : t .count ≤ mostMessages
+
+-- What a run gives back.
+pub record Ran (n : ℕ) (events : List Event) (r : Answer) : Type 0 where
+  pub is : r ≡ ranOf n events
+  pub holds : 1 ≤ n → n ≤ roomLimit → Holds n (r .table)
+
+-- two results of one run are equal
+pub ran-decided : (n : ℕ) (events : List Event) (r s : Answer) → Ran n events r → Ran n events s → r ≡ s
+ran-decided n events r s p q = decided (p .is) (q .is)

@@ -1,0 +1,46 @@
+-- A REQUEST that is sent back to its origin goes round for ever: its drain has no bound.
+use Prim.Native.Nat.{ℕ, zero, suc, _+_, _*_}
+use mathlib.Core.Path.{_≡_, refl}
+use mathlib.Core.List.{List, [], _∷_}
+use lib.Dec.{eqb}
+use Rattle.base.specs.Sums.{one}
+use Rattle.base.specs.Lists.{remove}
+use Rattle.base.specs.Arrays.{padded}
+use Rattle.modes.specs.Codes.{R, W}
+use Rattle.modes.specs.Modes.{agrees, isStronger, canLend}
+use Rattle.room.specs.Record.{entryOf}
+use Rattle.room.specs.Owned.{larger, strongest, owned, hasNoEntries}
+use Rattle.room.specs.Rules.{nextLink, isWorn, lentTo, lent, left, remaining, passedTo, passed, credited, settled, leaving, granted, lifted, tokenedBy, tokened, reduced}
+use Rattle.table.specs.declared.Table.{Table}
+use Rattle.table.specs.Numbers.{DONE}
+use Rattle.table.specs.Tables.{freshTable}
+use Rattle.table.specs.Oldest.{oldestIn, oldestOf}
+use Rattle.rules.specs.declared.Event.{Event}
+use Rattle.rules.specs.Work.{send, join, sendOut}
+use Rattle.rules.specs.Rules.{hold, want, lend, pass, settle, upgradeWaits, upgraded, serveQueue, serve, isEmpty, askWith, askWithout, ask, upgrade}
+use Rattle.rules.specs.Refusals.{first, isFound, anyWorn, refusals}
+use Rattle.rules.specs.Step.{after, outcome}
+use Rattle.stalls.specs.Stalls.{asks, delivers}
+use Rattle.stalls.specs.Habits.{Habits, circling, settleOrServeBy, handBackBy, takeRequestBy, receiveBy, deliveredBy, madeBy, stepBy, runsBy}
+
+-- room 2 has got the token and writes; room 1 has asked to read, and its REQUEST is at room 0, which sends it back
+abbrev pub begun : Table
+begun = runsBy circling (freshTable 3) (asks 2 W ∷ delivers 2 0 ∷ delivers 0 2 ∷ asks 1 R ∷ delivers 1 0 ∷ [])
+
+-- deliveries to and fro, and how many of a list are accepted
+unfoldable pub rounds : ℕ → List Event
+rounds zero = []
+rounds (suc k) = delivers 0 1 ∷ delivers 1 0 ∷ rounds k
+
+unfoldable pub acceptedBy : Habits → Table → List Event → ℕ
+acceptedBy h t [] = 0
+acceptedBy h t (e ∷ es) = one (eqb (stepBy h t e .«number») DONE) + acceptedBy h (stepBy h t e .table) es
+
+-- "at most 3n² + 8n + m further steps are accepted" fails for a REQUEST that goes round in a circle: of 54 deliveries none is refused, and the bound is 52
+pub circle-bound : 3 * (begun .n * begun .n) + 8 * begun .n + begun .count ≡ 52
+unfolding runsBy freshTable stepBy madeBy deliveredBy outcome after first isFound anyWorn oldestOf oldestIn takeRequestBy receiveBy settleOrServeBy handBackBy ask askWith askWithout upgrade upgraded upgradeWaits serveQueue serve settle lend pass hold want isEmpty send join sendOut nextLink isWorn lentTo lent left remaining passedTo passed credited settled leaving granted lifted tokenedBy tokened reduced entryOf larger strongest owned hasNoEntries agrees isStronger canLend remove padded refusals
+circle-bound = refl
+
+pub in-a-circle : acceptedBy circling begun (rounds 27) ≡ 54
+unfolding runsBy freshTable stepBy madeBy deliveredBy outcome after first isFound anyWorn oldestOf oldestIn takeRequestBy receiveBy settleOrServeBy handBackBy ask askWith askWithout upgrade upgraded upgradeWaits serveQueue serve settle lend pass hold want isEmpty send join sendOut nextLink isWorn lentTo lent left remaining passedTo passed credited settled leaving granted lifted tokenedBy tokened reduced entryOf larger strongest owned hasNoEntries agrees isStronger canLend remove padded refusals acceptedBy rounds
+in-a-circle = refl

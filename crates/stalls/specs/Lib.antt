@@ -1,0 +1,3 @@
+pub mod Habits
+pub mod Stalls
+pub mod Circle
