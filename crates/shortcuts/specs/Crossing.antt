@@ -28,7 +28,7 @@ use Rattle.table.specs.declared.Message.{Message}
 use Rattle.table.specs.declared.Message.the-variants as msg
 use Rattle.table.specs.Limits.{queueLimit, wireLimit}
 use Rattle.table.specs.Tables.{noWire, noQueued, roomAt, messagesOf}
-use Rattle.table.specs.Formed.{sizesFit, entryFine, roomFine, isBlankEntry, isBlankRoom, due, queuedFine, isBlankQueued, messageFine, namesRightly, wireFine, isNothing, isBlankWire, isToken, tokens, isNamedIn, names, roomsFine, queueFine, wiresFine, namesFine, wellFormed}
+use Rattle.table.specs.Formed.{sizesFit, entryFine, roomFine, isBlankEntry, isBlankRoom, due, isBlankQueued, messageFine, namesRightly, wireFine, isNothing, isBlankWire, isToken, tokens, isNamedIn, names, roomsFine, queueFine, wiresFine, namesFine, wellFormed}
 use Rattle.rules.specs.Rules.{upgradeWaits}
 use Rattle.rules.specs.Limits.{wornLimit}
 use Rattle.facts.specs.Whole.{facts-of}
@@ -36,7 +36,7 @@ use Rattle.facts.specs.Wires.{wire}
 use Rattle.kept.specs.After.{Lawful}
 use Rattle.kept.specs.Start.{sound}
 use Rattle.ledger.specs.Loans.{flush, owe, arriving, debt, flushed, owed, Ledger}
-use Rattle.ledger.specs.Links.{lift, reach, Links}
+use Rattle.ledger.specs.Links.{reach, Links}
 use Rattle.ledger.specs.Senders.{sender-none}
 use Rattle.owning.specs.Parts.{part}
 use Rattle.owning.specs.Clauses.{Small, Pairs}
@@ -90,7 +90,7 @@ other w i m e h = clash (ap isRequest (sym e ∙ only w i)) h
 
 -- well formed, by the test
 lawful : Lawful crossing
-unfolding crossing wellFormed sizesFit roomsFine roomFine entryFine isBlankRoom isBlankEntry queueFine queuedFine isBlankQueued
+unfolding crossing wellFormed sizesFit roomsFine roomFine entryFine isBlankRoom isBlankEntry queueFine isBlankQueued
     wiresFine wireFine messageFine namesRightly isBlankWire isNothing tokens isToken namesFine names isNamedIn due sum total
 lawful = (refl, unowned, record { rooms = refl; entries = entries; queue = refl; wires = refl })
   where
@@ -123,7 +123,7 @@ ledger p c lp lc ne =
         not (eqb p c) implies (eqb (d .mode) (e .mode) && eqb (d .link) (e .link))
 
 links : Links 3 rooms messages
-unfolding crossing folds arriving lift isRequest
+unfolding crossing folds arriving isRequest
 links =
     record {
       reduce = λ w i l m e. other w i _ e refl;
@@ -151,7 +151,8 @@ pairs : Pairs 3 rooms messages
 unfolding crossing part agrees isRequest
 pairs =
     record {
-      room = λ c l i j a b ne. implies-use (not (eqb i j)) _ (pairs-at 17 (agree c) (all-at 3 (λ c. allPairs 17 (agree c)) refl c l) i j (omega arith) (omega arith)) (ap not (ne-eqb i j ne));
+      room = λ c l i j a b ne.
+          implies-use (not (eqb i j)) _ (pairs-at (roomLimit + 1) (agree c) (each c l) i j (omega arith) (omega arith)) (ap not (ne-eqb i j ne));
       both = λ w i m rest l e. other w i _ e refl;
       mode = λ w i m rest l e. other w i _ e refl;
       rest = λ w i m rest l e. other w i _ e refl;
@@ -159,6 +160,10 @@ pairs =
   where
     agree : ℕ → ℕ → ℕ → Bool
     agree c i j = not (eqb i j) implies agrees (part (rooms c) i) (part (rooms c) j)
+
+    -- the entries, and behind them the held mode
+    each : (c : ℕ) → c < 3 → allPairs (roomLimit + 1) (agree c) ≡ true
+    each c l = all-at 3 (λ c. allPairs (roomLimit + 1) (agree c)) refl c l
 
 -- room 0 ranks below room 2, and that below room 1
 tree : Tree 3 rooms messages

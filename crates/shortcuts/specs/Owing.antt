@@ -10,7 +10,7 @@ use Rattle.base.specs.Tests.{clash}
 use Rattle.modes.specs.Codes.{R, W}
 use Rattle.modes.specs.Modes.{agrees, isStronger, canLend}
 use Rattle.room.specs.Record.{entryOf}
-use Rattle.room.specs.Owned.{larger, strongest, owned, hasNoEntries}
+use Rattle.room.specs.Owned.{larger, strongest, owned}
 use Rattle.room.specs.Rules.{nextLink, isWorn, lentTo, lent, settled, leaving, granted}
 use Rattle.table.specs.declared.Table.{Table}
 use Rattle.table.specs.declared.Wire.{Wire}
@@ -55,7 +55,7 @@ record Owes : Type 0 where
 owes : Owes
 unfolding crossing crossed unanswered runsBy stepBy madeBy deliveredBy outcome after refusals first isFound anyWorn oldestOf oldestIn
     reducedBy serveQueueBy serveBy settleOrServeBy askBy takeRequestBy receiveBy upgraded upgradeWaits settle lend hold isEmpty send sendOut
-    nextLink isWorn lentTo lent settled leaving granted entryOf larger strongest owned hasNoEntries agrees isStronger canLend remove padded
+    nextLink isWorn lentTo lent settled leaving granted entryOf larger strongest owned agrees isStronger canLend remove padded
 owes = record { debt = refl; grant = refl; held = refl }
 
 -- By the rules every event leads on to a table with the invariant.

@@ -20,7 +20,7 @@ entryCleared =
     asks 0 IR ∷ asks 1 IR ∷ asks 2 R ∷ delivers 1 0 ∷ handsBack 0 ∷ delivers 2 0 ∷ asks 0 U ∷ delivers 0 1 ∷ handsBack 1 ∷ delivers 0 2
     ∷ handsBack 2 ∷ delivers 0 2 ∷ delivers 2 0 ∷ upgrades 0 ∷ delivers 1 0 ∷ []
 
--- room 0's hand-back of what it owed with the token arrives at room 2 after room 2 has lent to room 0 anew
+-- what room 0 still owed when it passed the token is repaid, under the TOKEN's link number, after room 2 has lent to room 0 anew
 unfoldable pub counterLifted : List Event
 counterLifted =
     asks 0 IR ∷ asks 1 IR ∷ asks 2 U ∷ delivers 2 0 ∷ delivers 1 0 ∷ handsBack 0 ∷ asks 0 R ∷ delivers 0 2 ∷ delivers 0 1 ∷ handsBack 1
