@@ -40,7 +40,7 @@ use Rattle.ledger.specs.Links.{reach, Links}
 use Rattle.ledger.specs.Senders.{sender-none}
 use Rattle.owning.specs.Parts.{part}
 use Rattle.owning.specs.Clauses.{Small, Pairs}
-use Rattle.tree.specs.Tree.{Tree}
+use Rattle.tree.specs.Tree.{isGrant, Tree}
 use Rattle.bounds.specs.Bounds.{level, weight, isRequest}
 use Rattle.safe.specs.Invariant.{Clauses}
 use Rattle.safe.specs.Step.{Safe}
@@ -167,12 +167,12 @@ pairs =
 
 -- room 0 ranks below room 2, and that below room 1
 tree : Tree 3 rooms messages
-unfolding crossing isRequest
+unfolding crossing isGrant
 tree =
     record {
       rank = rank;
       lender = λ c l ne free. ltb-true _ _ (implies-use (not (eqb (rooms c .lender) nobody)) _ (all-at 3 above refl c l) (ap not (ne-eqb _ _ ne)));
-      grant = λ w i m l e. other w i _ e refl;
+      grant = λ w i h. clash h (rw (only w i) refl);
     }
   where
     rank : ℕ → ℕ

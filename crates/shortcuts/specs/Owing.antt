@@ -25,7 +25,7 @@ use Rattle.rules.specs.Rules.{hold, lend, settle, upgradeWaits, upgraded, isEmp
 use Rattle.rules.specs.Refusals.{first, isFound, anyWorn, refusals}
 use Rattle.rules.specs.Step.{after, outcome}
 use Rattle.facts.specs.Wires.{wire}
-use Rattle.tree.specs.Tree.{Tree}
+use Rattle.tree.specs.Tree.{isGrant, Tree}
 use Rattle.safe.specs.Reached.{Demand3}
 use Rattle.safe.specs.Step.{Safe, step-safe}
 use Rattle.twelve.specs.Twelve.{asks, delivers}
@@ -65,12 +65,12 @@ crossing-right e =
 
 -- By the shortcut no ranks are left: rooms 1 and 2 would each rank above the other.
 pub crossed-owing : Tree 3 (roomAt crossed) (messagesOf crossed) → ⊥
-unfolding isToken
+unfolding isToken isGrant
 crossed-owing tree =
     let there : Mem (wire 1 2 (msg.Grant R 1)) (messagesOf crossed) = rw (owes .grant) (List·Memᴰ·head refl) in
     omega (
       arith,
-      tree .grant (wire 1 2 (msg.Grant R 1)) there R 1 refl,
+      tree .grant (wire 1 2 (msg.Grant R 1)) there refl,
       rw (owes .debt) at (tree .lender 1 (omega arith) (λ e. omega (arith, owes .debt)) no-token),
     )
   where
