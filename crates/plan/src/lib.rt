@@ -1,6 +1,7 @@
 // What a step is going to do, worked out on the table as it came: the first refusal that applies, or what the rules make of one room.
 // Nothing is written here.
 ghost use mathlib.Core.Path.{_≡_};
+ghost use Rattle.table.specs.Formed.{wellFormed};
 ghost use Rattle.rules.specs.Events as events;
 ghost use Rattle.plan.specs.Plans.{startAt, madePlan, refusedPlan, planOf, Begins};
 use act::Done;
@@ -180,11 +181,13 @@ fn deliver(t: Table, e: Event) -> Plan
     made(e.other, place, 1, done)
 }
 
-// What a step on t by e is going to do, for any table and any event.
-pub fn planned(t: Table, e: Event) -> Plan
+// What a step on t by e is going to do, for any table and any event; formed says whether t is well formed.
+// It is for callers that have tested that, or proved it: the table is not tested here.
+pub fn planned(t: Table, e: Event, formed: bool) -> Plan
+    requires { ⌜ formed ≡ wellFormed t ⌝ }
     ensures { λ p. ⌜ p ≡ planOf t e ⌝ }
 {
-    if !formed::well_formed(t) {
+    if !formed {
         return refused(numbers::TABLE);
     }
     let kind = e.kind;

@@ -2,6 +2,7 @@
 ghost use mathlib.Core.Path.{_≡_};
 ghost use Prim.Native.Nat.{_+_, _≤_};
 ghost use lib.ListN.{length};
+ghost use Rattle.session.specs.Known.{Known};
 use libc::STDOUT_FILENO;
 use session::Turned;
 use table::Table;
@@ -32,7 +33,9 @@ fn nothing() -> Begun {
 }
 
 // Before the first line: the table that a refused `n` gives, which has no rooms.
-pub fn start() -> Talk {
+pub fn start() -> Talk
+    ensures { λ r. ⌜ Known (r .table) ⌝ }
+{
     let none = table::fresh(0);
     let table = none.table;
     let begun = nothing();
@@ -75,16 +78,22 @@ fn least(a: usize, b: usize) -> usize
 }
 
 // The turn for a line that is whole as it has begun.
-fn turn_whole(t: Table, b: Begun, out: &mut [u8]) -> Turned {
+fn turn_whole(t: Table, b: Begun, out: &mut [u8]) -> Turned
+    requires { ⌜ Known t ⌝ }
+    ensures { λ r. ⌜ Known (r .table) ⌝ }
+{
     let bytes = b.bytes;
     let n = least(b.length, KEPT);
-    session::turn(t, &bytes[..n], out)
+    session::turn_known(t, &bytes[..n], out)
 }
 
 // The turn for a line whose last piece has come.
-fn turn(t: Table, b: Begun, piece: &[u8], out: &mut [u8]) -> Turned {
+fn turn(t: Table, b: Begun, piece: &[u8], out: &mut [u8]) -> Turned
+    requires { ⌜ Known t ⌝ }
+    ensures { λ r. ⌜ Known (r .table) ⌝ }
+{
     if b.length == 0 {
-        return session::turn(t, piece, out);
+        return session::turn_known(t, piece, out);
     }
     turn_whole(t, with(b, piece), out)
 }
@@ -124,9 +133,11 @@ fn moved(out: &[u8], pen: Pen, n: usize) -> Pen
 }
 
 // The answers of all lines that are whole now, written out; the rest is kept.
-// Only for main, which is proved: out holds an answer at least.
+// Only for main, which is proved: out holds an answer at least, and the table is one that the session made.
 pub fn take(mut talk: Talk, chunk: &[u8], out: &mut [u8]) -> Talk
     requires { ⌜ 64 ≤ length (now out) ⌝ }
+    requires { ⌜ Known (talk .table) ⌝ }
+    ensures { λ r. ⌜ Known (r .table) ⌝ }
 {
     let mut t = talk.table;
     let mut begun = talk.begun;
@@ -150,9 +161,10 @@ pub fn take(mut talk: Talk, chunk: &[u8], out: &mut [u8]) -> Talk
 }
 
 // The input has ended: the last line is answered, where it lacks its feed.
-// Only for main, which is proved: out holds an answer at least.
+// Only for main, which is proved: out holds an answer at least, and the table is one that the session made.
 pub fn end(talk: Talk, out: &mut [u8])
     requires { ⌜ 64 ≤ length (now out) ⌝ }
+    requires { ⌜ Known (talk .table) ⌝ }
 {
     let begun = talk.begun;
     if begun.length == 0 {

@@ -1,7 +1,9 @@
 // The session: one line in, one line out. A table goes from line to line, and before the first accepted `n` it is the blank one.
 ghost use mathlib.Core.Path.{_≡_};
+ghost use Rattle.table.specs.Formed.{wellFormed};
 ghost use Rattle.table.specs.Tables.{freshOf};
 ghost use Rattle.writing.specs.Written.{writtenOf};
+ghost use Rattle.session.specs.Known.{Known};
 ghost use Rattle.session.specs.Turns.{begun, unread, obeyed, answerTo, turnedOf};
 use reading::Command;
 use reading::read;
@@ -47,19 +49,21 @@ fn other(t: Table) -> Answer
     }
 }
 
-// What a line asks for is done, or refused.
-fn obey(t: Table, c: Command) -> Answer
+// What a line asks for is done, or refused; formed says whether t is well formed.
+fn obey(t: Table, c: Command, formed: bool) -> Answer
+    requires { ⌜ formed ≡ wellFormed t ⌝ }
     ensures { λ r. ⌜ r ≡ obeyed t c ⌝ }
 {
     match c {
         Command::Other => other(t),
         Command::Fresh { n } => begin(t, n),
-        Command::Make { event } => step::step(t, event),
+        Command::Make { event } => step::step_untested(t, event, formed),
     }
 }
 
-// One turn: the table after a line, and the answer at the start of out. Where out is shorter than a line can be nothing is done.
-pub fn turn(t: Table, line: &[u8], out: &mut [u8]) -> Turned
+// A turn; formed says whether t is well formed.
+fn answer(t: Table, formed: bool, line: &[u8], out: &mut [u8]) -> Turned
+    requires { ⌜ formed ≡ wellFormed t ⌝ }
     ensures { λ r. ⌜ r ≡ turnedOf t (now (line .entry)) (now (out .entry)) ⌝ }
     ensures { λ r. ⌜ now (out .exit) ≡ writtenOf (answerTo t (now (line .entry)) .«number») (answerTo t (now (line .entry)) .table) (now (out .entry)) ⌝ }
 {
@@ -69,11 +73,31 @@ pub fn turn(t: Table, line: &[u8], out: &mut [u8]) -> Turned
             length: 0,
         };
     }
-    let a = obey(t, read(line));
+    let a = obey(t, read(line), formed);
     let after = a.table;
     let length = write_line(a.number, after, out);
     Turned {
         table: after,
         length: length,
     }
+}
+
+// One turn: the table after a line, and the answer at the start of out. Where out is shorter than a line can be nothing is done.
+pub fn turn(t: Table, line: &[u8], out: &mut [u8]) -> Turned
+    ensures { λ r. ⌜ r ≡ turnedOf t (now (line .entry)) (now (out .entry)) ⌝ }
+    ensures { λ r. ⌜ now (out .exit) ≡ writtenOf (answerTo t (now (line .entry)) .«number») (answerTo t (now (line .entry)) .table) (now (out .entry)) ⌝ }
+{
+    let formed = formed::well_formed(t);
+    answer(t, formed, line, out)
+}
+
+// The same turn on a table that the session made itself, of which its caller has a proof: it is not tested, and the next one is such a table too.
+pub fn turn_known(t: Table, line: &[u8], out: &mut [u8]) -> Turned
+    requires { ⌜ Known t ⌝ }
+    ensures { λ r. ⌜ r ≡ turnedOf t (now (line .entry)) (now (out .entry)) ⌝ }
+    ensures { λ r. ⌜ now (out .exit) ≡ writtenOf (answerTo t (now (line .entry)) .«number») (answerTo t (now (line .entry)) .table) (now (out .entry)) ⌝ }
+    ensures { λ r. ⌜ Known (r .table) ⌝ }
+{
+    let started = t.n != 0;
+    answer(t, started, line, out)
 }

@@ -2,6 +2,7 @@
 // nothing is written until the step is known to be made.
 ghost use mathlib.Core.Path.{_≡_};
 ghost use Rattle.rules.specs.Step.{stepOf};
+ghost use Rattle.table.specs.Formed.{wellFormed};
 ghost use Rattle.step.specs.Writes.{Sized, endingOf};
 
 mod write;
@@ -15,7 +16,7 @@ use table::numbers;
 use write::written;
 
 // The number that is given back for a plan on a table with so many messages: its own, WORN, FULL or DONE.
-// Only for step, which is proved: a plan takes out no more messages than there are.
+// Only for the step, which is proved: a plan takes out no more messages than there are.
 fn ending(count: usize, p: Plan) -> u8
     requires { ⌜ Sized count p ⌝ }
     ensures { λ r. ⌜ r ≡ endingOf count p ⌝ }
@@ -36,11 +37,13 @@ fn ending(count: usize, p: Plan) -> u8
     numbers::DONE
 }
 
-// One step on any table and any event: a number, and the table after it.
-pub fn step(t: Table, e: Event) -> Answer
+// One step by any event, without the test of the table: formed says whether t is well formed. It is for callers that have tested that, or
+// proved it, and gives the answer of step.
+pub fn step_untested(t: Table, e: Event, formed: bool) -> Answer
+    requires { ⌜ formed ≡ wellFormed t ⌝ }
     ensures { λ r. ⌜ r ≡ stepOf t e ⌝ }
 {
-    let p = plan::planned(t, e);
+    let p = plan::planned(t, e, formed);
     let count = t.count;
     let number = ending(count, p);
     if number != numbers::DONE {
@@ -54,4 +57,12 @@ pub fn step(t: Table, e: Event) -> Answer
         number: numbers::DONE,
         table: after,
     }
+}
+
+// One step on any table and any event: a number, and the table after it.
+pub fn step(t: Table, e: Event) -> Answer
+    ensures { λ r. ⌜ r ≡ stepOf t e ⌝ }
+{
+    let formed = formed::well_formed(t);
+    step_untested(t, e, formed)
 }

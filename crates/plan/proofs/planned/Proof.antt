@@ -4,9 +4,6 @@ use borrow.Author.Needs.{needs}
 use Rattle.plan.proofs.planned.Statement.{statement}
 use Rattle.plan.proofs.planned.Tie as tie
 
-well-formed-requires : tie.Need-well-formed-requires
-well-formed-requires c κs = search needs
-
 refused-requires : tie.Need-refused-requires
 refused-requires c κs = search needs
 
@@ -35,7 +32,7 @@ hand-back-requires : tie.Need-hand-back-requires
 hand-back-requires c κs = search (needs, begins)
 
 deliver-requires : tie.Need-deliver-requires
-deliver-requires c κs = begins _ _ _ (c .before .before .before .before .before .before .well-formed .ensures) (c .before .before .before .before .before .if1 .left) 3 (omega arith) (omega arith)
+deliver-requires c κs = begins _ _ _ (c .before .before .before .before .before .before .pre) (c .before .before .before .before .before .if1 .left) 3 (omega arith) (omega arith)
 
 returns-4 : tie.Need-returns-4
 returns-4 c = search needs
@@ -53,7 +50,6 @@ pub planned-spec : {M : Type 1} → statement M
 planned-spec =
     tie.close
     (tie.spec
-    well-formed-requires
     refused-requires
     returns
     refused-requires-2

@@ -2,6 +2,7 @@ use native.Mathlib.Omega.{arith}
 use mathlib.Core.Path.{_≡_}
 use Prim.Native.Nat.{_≤_}
 use lib.ListN.{length}
+use Rattle.session.specs.Known.{Known}
 use Rattle.punkurel.proofs.Known.{part-long}
 use borrow.Author.Needs.{needs}
 use Rattle.punkurel.proofs.main.Statement.{statement}
@@ -9,7 +10,7 @@ use Rattle.punkurel.proofs.main.Tie as tie
 
 abbrev Inv-loop : tie.InvT-loop
 Inv-loop input₀ output₀ talk₀ turns₀ n₀ input output talk turns n =
-    (length input ≡ 65536) × (length output ≡ 65536) × (n ≤ 65536)
+    (length input ≡ 65536) × (length output ≡ 65536) × (n ≤ 65536) × Known (talk .table)
 
 abbrev μ-loop : tie.MeasureT-loop
 μ-loop input₀ output₀ talk₀ turns₀ n₀ input output talk turns n = turns

@@ -18,8 +18,8 @@ begin-requires c κs = search needs
 enum-known-c-2 : tie.Need-enum-known-c-2
 enum-known-c-2 c = search needs
 
-step-requires : tie.Need-step-requires
-step-requires c κs = search needs
+step-untested-requires : tie.Need-step-untested-requires
+step-untested-requires c κs = search needs
 
 returns : tie.Need-returns
 returns c = search (needs, obeyed-other)
@@ -39,7 +39,7 @@ obey-spec =
     enum-known-c
     begin-requires
     enum-known-c-2
-    step-requires
+    step-untested-requires
     returns
     returns-2
     returns-3)

@@ -2,13 +2,14 @@ use native.Mathlib.Omega.{arith}
 use mathlib.Core.Path.{_≡_, refl}
 use Prim.Native.Nat.{_≤_, _+_, _-_}
 use lib.ListN.{length}
+use Rattle.session.specs.Known.{Known}
 use borrow.Author.Needs.{needs}
 use Rattle.punkurel.proofs.lines.take.Statement.{statement}
 use Rattle.punkurel.proofs.lines.take.Tie as tie
 
 abbrev Inv-loop : tie.InvT-loop
 Inv-loop talk chunk out₀ t₀ begun₀ pen₀ from₀ end₀ out t begun pen from end =
-    (from ≤ end) × (end ≤ length chunk) × (pen .at + 64 ≤ length out) × (length out ≡ length out₀)
+    (from ≤ end) × (end ≤ length chunk) × (pen .at + 64 ≤ length out) × (length out ≡ length out₀) × Known t
 
 abbrev μ-loop : tie.MeasureT-loop
 μ-loop talk chunk out₀ t₀ begun₀ pen₀ from₀ end₀ out t begun pen from end = length chunk - from
@@ -17,7 +18,7 @@ find-requires : tie.Need-find-requires Inv-loop μ-loop
 find-requires c κs = search needs
 
 loop-holds : tie.Need-loop-holds Inv-loop μ-loop
-loop-holds c = (omega arith, omega arith, omega arith, refl)
+loop-holds c = (omega arith, omega arith, omega arith, refl, search needs)
 
 add-next : tie.Need-add-next Inv-loop μ-loop
 add-next c = search needs
@@ -56,7 +57,7 @@ loop-less : tie.Need-loop-less Inv-loop μ-loop
 loop-less c = search needs
 
 loop-again : tie.Need-loop-again Inv-loop μ-loop
-loop-again c = search needs
+loop-again c = (search needs, search needs, search needs, search needs, c .before .before .before .before .before .before .before .turn .ensures)
 
 sub-with : tie.Need-sub-with Inv-loop μ-loop
 sub-with c = search needs

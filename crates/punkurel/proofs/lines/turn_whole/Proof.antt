@@ -11,12 +11,12 @@ array-share-prefix-bytes : tie.Need-array-share-prefix-bytes
 array-share-prefix-bytes c =
     let s = c .before .before .before in omega (arith, bytes-long (s .args .b) (s .good .1 .0))
 
-slice-aggregate-turn : tie.Need-slice-aggregate-turn
-slice-aggregate-turn c =
+slice-aggregate-turn-known : tie.Need-slice-aggregate-turn-known
+slice-aggregate-turn-known c =
     let s = c .before .before .before .before in part-long _ _ (omega (arith, bytes-long (s .args .b) (s .good .1 .0)))
 
-turn-requires : tie.Need-turn-requires
-turn-requires c κs = search needs
+turn-known-requires : tie.Need-turn-known-requires
+turn-known-requires c κs = search needs
 
 same-length : tie.Need-same-length
 same-length c = search needs
@@ -27,4 +27,4 @@ returns c = search needs
 pub turn-whole-spec : {M : Type 1} → statement M
 turn-whole-spec =
     tie.close
-    (tie.spec least-requires array-share-prefix-bytes slice-aggregate-turn turn-requires same-length returns)
+    (tie.spec least-requires array-share-prefix-bytes slice-aggregate-turn-known turn-known-requires same-length returns)

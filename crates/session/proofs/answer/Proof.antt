@@ -2,8 +2,8 @@ use native.Mathlib.Omega.{arith}
 use Rattle.session.specs.Turns.{answerTo}
 use Rattle.session.proofs.Turns.{turn-short, text-short, turn-made, text-made}
 use borrow.Author.Needs.{needs}
-use Rattle.session.proofs.turn.Statement.{statement}
-use Rattle.session.proofs.turn.Tie as tie
+use Rattle.session.proofs.answer.Statement.{statement}
+use Rattle.session.proofs.answer.Tie as tie
 
 returns : tie.Need-returns
 returns c =
@@ -25,7 +25,7 @@ same-length c = search needs
 returns-2 : tie.Need-returns-2
 returns-2 c = search (needs, turn-made, text-made)
 
-pub turn-spec : {M : Type 1} → statement M
-turn-spec =
+pub answer-spec : {M : Type 1} → statement M
+answer-spec =
     tie.close
     (tie.spec returns read-requires obey-requires write-line-requires same-length returns-2)
