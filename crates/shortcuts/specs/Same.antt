@@ -22,7 +22,7 @@ use Rattle.rules.specs.Refusals.{first, refusals, refusal}
 use Rattle.rules.specs.Step.{outcome, delivered, made, stepOf, runs}
 use Rattle.safe.specs.Reached.{Demand3}
 use Rattle.safe.specs.Step.{Safe, step-safe}
-use Rattle.safe.specs.Always.{reached-safe, demand3}
+use Rattle.safe.specs.Always.{fresh-start, demand3}
 use Rattle.shortcuts.specs.Choices.{right}
 use Rattle.shortcuts.specs.Rules.{reducedBy, tokenedAs, passedAs, passBy, serveQueueBy, serveBy, settleOrServeBy, askBy, handBackBy, takeRequestBy, receiveBy}
 use Rattle.shortcuts.specs.Step.{deliveredBy, madeBy, stepBy, runsBy}
@@ -84,8 +84,7 @@ same-runs n (e ∷ es) t s = rw (same-step t e (s .lawful .0)) (same-runs n es (
 
 module _ (n : ℕ) (some : 1 ≤ n) (most : n ≤ roomLimit) (es : List Event) where
   pub same-fresh : runsBy right (freshTable n) es ≡ runs (freshTable n) es
-  unfolding runs
-  same-fresh = same-runs n es (freshTable n) (reached-safe n (freshTable n) (record { some = some; most = most; events = []; leads = refl }))
+  same-fresh = same-runs n es (freshTable n) (fresh-start n some most)
 
   -- so demand 3, first half, holds of every table that they lead to
   pub right-demand3 : Demand3 n (runsBy right (freshTable n) es)
