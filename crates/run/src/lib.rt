@@ -8,7 +8,7 @@ use table::Table;
 use table::numbers;
 
 // The bytes of an event: its kind, room, other and mode.
-pub const EVENT: usize = 4;
+pub const EVENT_BYTES: usize = 4;
 
 // The table after all events, refused ones among them.
 fn made(t: Table, events: &[u8]) -> Table
@@ -16,7 +16,7 @@ fn made(t: Table, events: &[u8]) -> Table
 {
     let mut u = t;
     let mut at: usize = 0;
-    while events.len() - at >= EVENT {
+    while events.len() - at >= EVENT_BYTES {
         let event = Event {
             kind: events[at],
             room: events[at + 1],
@@ -25,7 +25,7 @@ fn made(t: Table, events: &[u8]) -> Table
         };
         let a = step::step(u, event);
         u = a.table;
-        at += EVENT;
+        at += EVENT_BYTES;
     }
     u
 }
