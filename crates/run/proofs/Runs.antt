@@ -2,7 +2,6 @@
 use mathlib.Core.Path.{_≡_, refl, sym, _∙_, ap}
 use mathlib.Core.List.{List}
 use Prim.Native.Nat.{ℕ, _≤_}
-use lib.Dec.{eqb, leb}
 use borrow.Author.Tests.{le-leb, eq-eqb, ne-eqb}
 use Rattle.room.specs.Limits.{roomLimit}
 use Rattle.table.specs.declared.Table.{Table}
