@@ -4,16 +4,16 @@ use mathlib.Core.List.{List, [], _∷_}
 use Prim.Native.Nat.{ℕ, suc, _+_, _-_, _≤_, _<_}
 use native.Mathlib.Omega.{arith}
 use native.Mathlib.Numerals.{unary-clauses}
-use lib.ListN.{length, getD, drop, length-drop}
+use lib.ListN.{length, drop, length-drop}
 use lib.Seq.{drop-cons}
 use Rattle.table.specs.declared.Table.{Table}
 use Rattle.table.specs.declared.Answer.{Answer}
 use Rattle.rules.specs.declared.Event.{Event}
 use Rattle.rules.specs.Step.{stepOf, runs}
-use Rattle.run.specs.Runs.{eventsOf}
+use Rattle.run.specs.Runs.{eventsOf, eventAt}
 
 -- less than four bytes are no event
-events-none : (xs : List ℕ) → length xs < 4 → eventsOf xs ≡ []
+pub events-none : (xs : List ℕ) → length xs < 4 → eventsOf xs ≡ []
 unfolding eventsOf
 events-none [] h = refl
 events-none (a ∷ []) h = refl
@@ -21,11 +21,8 @@ events-none (a ∷ b ∷ []) h = refl
 events-none (a ∷ b ∷ c ∷ []) h = refl
 events-none (a ∷ b ∷ c ∷ d ∷ xs) h = absurd (omega (arith, h))
 
--- the event at a place, as the code reads it
-abbrev pub eventAt : List ℕ → ℕ → Event
-eventAt xs at = record { kind = getD xs at 0; room = getD xs (at + 1) 0; other = getD xs (at + 2) 0; mode = getD xs (at + 3) 0 }
-
-events-more : (xs : List ℕ) (at : ℕ) → 4 ≤ length xs - at → eventsOf (drop at xs) ≡ eventAt xs at ∷ eventsOf (drop (at + 4) xs)
+-- the event at a place is the first of those from there on
+pub events-more : (xs : List ℕ) (at : ℕ) → 4 ≤ length xs - at → eventsOf (drop at xs) ≡ eventAt xs at ∷ eventsOf (drop (at + 4) xs)
 unfolding eventsOf
 events-more xs at h =
     rw (
@@ -44,12 +41,12 @@ pub before-none : (t : Table) (xs : List ℕ) → Before t xs t 0
 before-none t xs = record { low = omega arith; on = refl }
 
 module _ (t : Table) (xs : List ℕ) (u : Table) (at : ℕ) (b : Before t xs u at) where
-  pub before-more : 4 ≤ length xs - at → (a : Answer) → a ≡ stepOf u (eventAt xs at) → Before t xs (a .table) (at + 4)
+  pub before-more : 4 ≤ length xs - at → (e : Event) → e ≡ eventAt xs at → (a : Answer) → a ≡ stepOf u e → Before t xs (a .table) (at + 4)
   unfolding runs
-  before-more h a e =
+  before-more h e p a q =
       record {
         low = omega (arith, b .low);
-        on = ap (λ (a : Answer). runs (a .table) (eventsOf (drop (at + 4) xs))) e ∙ ap (runs u) (sym (events-more xs at h)) ∙ b .on;
+        on = ap (λ (a : Answer). runs (a .table) (eventsOf (drop (at + 4) xs))) (q ∙ ap (stepOf u) p) ∙ ap (runs u) (sym (events-more xs at h)) ∙ b .on;
       }
 
   pub before-all : length xs - at < 4 → u ≡ runs t (eventsOf xs)

@@ -1,2 +1,4 @@
 pub mod Events
 pub mod Runs
+pub mod Drains
+pub mod Left

@@ -1,9 +1,10 @@
 -- A run of events from a fresh table: what is given back, and what holds of the table.
-use Prim.Native.Nat.{ℕ, _≤_}
+use Prim.Native.Nat.{ℕ, _+_, _≤_}
 use mathlib.Core.Path.{_≡_}
 use mathlib.Core.Bool.{true}
 use mathlib.Core.List.{List, [], _∷_}
 use lib.Dec.{eqb}
+use lib.ListN.{getD}
 use Rattle.base.specs.Choice.{if_then_else_, decided}
 use Rattle.room.specs.Limits.{roomLimit}
 use Rattle.table.specs.declared.Table.{Table}
@@ -22,6 +23,10 @@ eventsOf (kind ∷ []) = []
 eventsOf (kind ∷ room ∷ []) = []
 eventsOf (kind ∷ room ∷ other ∷ []) = []
 eventsOf (kind ∷ room ∷ other ∷ mode ∷ rest) = record { kind = kind; room = room; other = other; mode = mode } ∷ eventsOf rest
+
+-- the event at a place
+abbrev pub eventAt : List ℕ → ℕ → Event
+eventAt xs at = record { kind = getD xs at 0; room = getD xs (at + 1) 0; other = getD xs (at + 2) 0; mode = getD xs (at + 3) 0 }
 
 -- events made on a fresh table; on a refused one none is made
 unfoldable pub continued : Answer → List Event → Answer

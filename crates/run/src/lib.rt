@@ -2,7 +2,11 @@
 ghost use mathlib.Core.Path.{_≡_};
 ghost use Rattle.rules.specs.Step.{runs};
 ghost use Rattle.run.specs.Runs.{eventsOf, Ran};
-use rules::Event;
+
+pub mod draining; // draining.rt: deliveries and hand-backs alone
+mod event; // event.rt: an event in bytes
+
+use event::event_at;
 use table::Answer;
 use table::Table;
 use table::numbers;
@@ -17,13 +21,7 @@ fn made(t: Table, events: &[u8]) -> Table
     let mut u = t;
     let mut at: usize = 0;
     while events.len() - at >= EVENT_BYTES {
-        let event = Event {
-            kind: events[at],
-            room: events[at + 1],
-            other: events[at + 2],
-            mode: events[at + 3],
-        };
-        let a = step::step(u, event);
+        let a = step::step(u, event_at(events, at));
         u = a.table;
         at += EVENT_BYTES;
     }
