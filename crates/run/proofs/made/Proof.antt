@@ -1,5 +1,6 @@
 use Prim.Native.Nat.{_-_}
 use lib.ListN.{length}
+use native.Mathlib.Omega.{arith}
 use borrow.Author.Needs.{needs}
 use Rattle.run.proofs.Events.{Before, before-none, before-more, before-all}
 use Rattle.run.proofs.made.Statement.{statement}
@@ -30,10 +31,10 @@ loop-less : tie.Need-loop-less Inv-loop μ-loop
 loop-less c = search needs
 
 loop-again : tie.Need-loop-again Inv-loop μ-loop
-loop-again c = search (needs, before-more)
+loop-again c = before-more _ _ _ _ (c .before .before .before .before .loop .inv) (omega arith) _ (c .before .before .event-at .ensures) _ (c .before .step .ensures)
 
 returns : tie.Need-returns Inv-loop μ-loop
-returns c = search (needs, before-all)
+returns c = before-all _ _ _ _ (c .before .loop .inv) (omega arith)
 
 pub made-spec : {M : Type 1} → statement M
 made-spec =
