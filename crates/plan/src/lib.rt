@@ -182,7 +182,7 @@ fn deliver(t: Table, e: Event) -> Plan
 }
 
 // What a step on t by e is going to do, for any table and any event; formed says whether t is well formed.
-// It is for callers that have tested that, or proved it: the table is not tested here.
+// Only for proved callers, who have tested that or have a proof of it; for all others there is step.
 pub fn planned(t: Table, e: Event, formed: bool) -> Plan
     requires { ⌜ formed ≡ wellFormed t ⌝ }
     ensures { λ p. ⌜ p ≡ planOf t e ⌝ }

@@ -91,7 +91,8 @@ pub fn turn(t: Table, line: &[u8], out: &mut [u8]) -> Turned
     answer(t, formed, line, out)
 }
 
-// The same turn on a table that the session made itself, of which its caller has a proof: it is not tested, and the next one is such a table too.
+// The same turn on a table that the session made itself: it is not tested, and the next one is such a table too.
+// Only for proved callers, who know that of their table; for all others there is turn.
 pub fn turn_known(t: Table, line: &[u8], out: &mut [u8]) -> Turned
     requires { ⌜ Known t ⌝ }
     ensures { λ r. ⌜ r ≡ turnedOf t (now (line .entry)) (now (out .entry)) ⌝ }

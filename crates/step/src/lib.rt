@@ -37,8 +37,8 @@ fn ending(count: usize, p: Plan) -> u8
     numbers::DONE
 }
 
-// One step by any event, without the test of the table: formed says whether t is well formed. It is for callers that have tested that, or
-// proved it, and gives the answer of step.
+// One step by any event, without the test of the table: formed says whether t is well formed. It gives the answer of step.
+// Only for proved callers, who have tested that or have a proof of it; for all others there is step.
 pub fn step_untested(t: Table, e: Event, formed: bool) -> Answer
     requires { ⌜ formed ≡ wellFormed t ⌝ }
     ensures { λ r. ⌜ r ≡ stepOf t e ⌝ }
