@@ -1,6 +1,5 @@
 -- The bytes of a session's lines, in ASCII.
 use Prim.Native.Nat.{ℕ}
-use mathlib.Core.List.{List, [], _∷_}
 
 abbrev pub lineFeed : ℕ
 lineFeed = 10

@@ -6,3 +6,4 @@ pub mod Lists
 pub mod Arrays
 pub mod Letters
 pub mod Folds
+pub mod Ranks

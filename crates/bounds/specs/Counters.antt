@@ -16,13 +16,14 @@ use Rattle.room.specs.declared.Room.{Room}
 use Rattle.room.specs.Limits.{nobody, lastLink}
 use Rattle.room.specs.Record.{entryOf, entryAt, withModes, withDebt, setEntry}
 use Rattle.room.specs.Owned.{owned}
-use Rattle.room.specs.Rules.{nextLink, lentTo, left, remaining, passedTo, credited, lifted, tokenedBy, reduced}
+use Rattle.room.specs.Rules.{nextLink, lentTo, left, remaining, passedTo, credited, tokenedBy, reduced}
 use Rattle.table.specs.declared.Wire.{Wire}
 use Rattle.table.specs.declared.Queued.{Queued}
 use Rattle.table.specs.declared.Message.the-variants as msg
 use Rattle.table.specs.Tables.{noWire}
 use Rattle.rules.specs.Limits.{wornLimit}
 use Rattle.facts.specs.Wires.{wire, leavingSent}
+use Rattle.facts.specs.Cases.{lifted-either}
 use Rattle.bounds.specs.Bounds.{isRequest, Counters}
 use Rattle.bounds.specs.Weights.{requests, requests-sent, requests-taken, requests-leaving}
 
@@ -77,11 +78,6 @@ unfolding reduced
 reduced-counter r a l m =
     by-test (λ (s : Room). s .counter ≡ r .counter) (eqb (entryAt r a .link) l && isStronger (entryAt r a .mode) m)
     (setEntry r a (entryOf m l)) r (λ e. refl) (λ e. refl)
-
--- the larger of two numbers is below what both are below
-lifted-below : (k l more b : ℕ) → k + more < b → l + more < b → lifted k l + more < b
-unfolding lifted
-lifted-below k l more b p q = by-test (λ (j : ℕ). j + more < b) (ltb k l) l k (λ e. q) (λ e. p)
 
 -- Changes of one room's record.
 module _ (n : ℕ) (old new : ℕ → Room) (messages : List Wire) (me : ℕ) (low : me < n) (others : (c : ℕ) → c ≢ me → new c ≡ old c)
@@ -149,8 +145,8 @@ module _ (n : ℕ) (old new : ℕ → Room) (messages : List Wire) (me : ℕ) (l
   counters-token k a m rest l inside there sender reached here before =
       each (remove k messages ++ leavingSent me (old me) a) hand (omega (arith, fewer)) before
       (rw (ap (λ (r : Room). r .counter) here)
-      (lifted-below (old me .counter) l (length queue + requests (remove k messages ++ leavingSent me (old me) a) + hand) (wornLimit + n)
-      (omega (arith, fewer, before me low)) (omega (arith, fewer, before a sender))))
+      (lifted-either (old me .counter) l (λ (j : ℕ). j + (length queue + requests (remove k messages ++ leavingSent me (old me) a) + hand) < wornLimit + n)
+      (λ h. omega (arith, fewer, before a sender)) (λ h. omega (arith, fewer, before me low))))
     where
       fewer : requests (remove k messages ++ leavingSent me (old me) a) ≤ requests messages
       fewer = omega (arith, requests-taken messages k a me (msg.Token m rest l) inside there, requests-leaving (remove k messages) me (old me) a)

@@ -2,7 +2,7 @@
 use mathlib.Core.Path.{_≡_, refl, sym, _∙_, ap, subst⁻¹}
 use mathlib.Core.Logic.{_≢_}
 use mathlib.Core.Bool.{Bool, true, false, not, _&&_, false≢true}
-use mathlib.Core.List.{List, [], _∷_, _++_, append-nil}
+use mathlib.Core.List.{List, _++_, append-nil}
 use Prim.Native.Nat.{ℕ, _≤_, _<_}
 use native.Mathlib.Omega.{arith}
 use lib.Dec.{ltb, leb, eqb}
@@ -10,28 +10,29 @@ use borrow.Author.Tests.{ltb-true, leb-true, eqb-true, eqb-false, not-true}
 use Rattle.base.specs.Choice.{by-test}
 use Rattle.base.specs.Tests.{and-left, and-right}
 use Rattle.base.specs.Sums.{one}
-use Rattle.base.specs.Lists.{Mem, remove}
+use Rattle.base.specs.Lists.{remove}
 use Rattle.modes.specs.Codes.{IR, W}
 use Rattle.modes.specs.Modes.{canLend}
 use Rattle.room.specs.declared.Room.{Room}
 use Rattle.room.specs.Limits.{nobody}
 use Rattle.room.specs.Record.{withModes, withDebt}
 use Rattle.room.specs.Owned.{owned}
-use Rattle.room.specs.Rules.{nextLink, lent, lentTo, granted, tokened, tokenedBy, reduced}
+use Rattle.room.specs.Rules.{lent, lentTo, granted, tokened, tokenedBy, reduced}
 use Rattle.table.specs.declared.Wire.{Wire}
 use Rattle.table.specs.declared.Queued.{Queued}
 use Rattle.table.specs.declared.Message.{Message}
 use Rattle.table.specs.declared.Message.the-variants as msg
 use Rattle.table.specs.Formed.{due, tokens, isMode, messageFine, namesRightly, isToken, isNamedIn}
-use Rattle.rules.specs.Work.{Work, withRoom, send, join, change}
+use Rattle.rules.specs.Work.{Work, withRoom, send, join}
 use Rattle.rules.specs.Rules.{lend, settle, serve, settleOrServe, takeRequest, receive}
 use Rattle.facts.specs.Wires.{wire, leavingSent}
-use Rattle.kept.specs.Changed.{changed, changed-same, changed-other}
+use Rattle.kept.specs.Changed.{changed, changed-same, changed-elsewhere}
 use Rattle.kept.specs.Moment.{Right, empty}
 use Rattle.kept.specs.Acts.{At, Whole, now, only}
 use Rattle.kept.specs.Delivers.{reduced-kept}
 use Rattle.ledger.specs.Takes.{Oldest}
-use Rattle.measure.specs.Way.{Leads, rerooted}
+use Rattle.base.specs.Ranks.{rerooted}
+use Rattle.measure.specs.Way.{Leads}
 use Rattle.measure.specs.Measure.{potential}
 use Rattle.measure.specs.Heights.{leads-request-taken, leads-request-sent, leads-lend, leads-grant, leads-token, leads-reduce}
 use Rattle.measure.specs.Moves.{potential-joined, potential-request-taken, falls-sent-on}
@@ -39,7 +40,7 @@ use Rattle.measure.specs.Falls.{not-more-lend, falls-grant, falls-token, falls-
 use Rattle.safe.specs.Invariant.{Invariant}
 use Rattle.safe.specs.Heard.{taking, lent-owing}
 use Rattle.safe.specs.Delivers.{sending, left-work, reduced-owing}
-use Rattle.drain.specs.Weighs.{Weighs, Rests, weighs-serve}
+use Rattle.drain.specs.Weighs.{Rests, weighs-serve}
 use Rattle.drain.specs.Lower.{Lower, lower, weighs-settle}
 
 module _ (n : ℕ) (rooms : ℕ → Room) (messages : List Wire) (me : ℕ) (room : Room) (queue : List Queued)
@@ -69,7 +70,7 @@ module _ (n : ℕ) (rooms : ℕ → Room) (messages : List Wire) (me : ℕ) (roo
     here = changed-same rooms me r
 
     others : (c : ℕ) → c ≢ me → new c ≡ old c
-    others c e = changed-other rooms me r c e ∙ sym (changed-other rooms me room c e)
+    others c e = changed-elsewhere rooms me r room c e
 
   -- REQUEST
   module _ (o m : ℕ) (idle : Bool) (at : Oldest messages k a me (msg.Request o m idle)) where

@@ -1,16 +1,16 @@
 -- What a delivery or a hand-back does to the modes of the room that acts: it wants what it wanted, or has been given that mode.
 use mathlib.Core.Path.{_≡_, refl, sym, _∙_, ap}
 use mathlib.Core.Logic.{_⊎_, inl, inr, ⊎-elim}
-use mathlib.Core.Bool.{Bool, true, not, _&&_, _||_, false≢true}
+use mathlib.Core.Bool.{Bool, true, not, _&&_}
 use mathlib.Core.List.{List, [], _∷_, List·Memᴰ·head}
-use Prim.Native.Nat.{ℕ, zero, suc, _≤_}
+use Prim.Native.Nat.{ℕ, _≤_}
 use native.Mathlib.Omega.{arith}
 use lib.Dec.{ltb, leb, eqb}
 use borrow.Author.Tests.{ltb-true, leb-true, eqb-true, eqb-false}
 use Rattle.base.specs.Choice.{by-test}
 use Rattle.base.specs.Tests.{and-left, and-right}
 use Rattle.base.specs.Sums.{one}
-use Rattle.modes.specs.Codes.{IR, R, U, IW, W}
+use Rattle.modes.specs.Codes.{IR, U, W}
 use Rattle.modes.specs.Modes.{isStronger, agrees, canLend}
 use Rattle.room.specs.declared.Room.{Room}
 use Rattle.room.specs.declared.Send.{Send}
@@ -35,8 +35,8 @@ use Rattle.kept.specs.Acts.{At, Whole, now, only, put-joined}
 use Rattle.kept.specs.Asks.{hold-kept}
 use Rattle.kept.specs.Turns.{turn-self, turn-lend}
 use Rattle.kept.specs.Serve.{upgraded-kept, upgraded-token}
-use Rattle.kept.specs.Delivers.{arrived-kept, reduced-kept}
-use Rattle.safe.specs.Receiving.{reduced-either}
+use Rattle.kept.specs.Delivers.{grant-modes, arrived-kept, reduced-kept}
+use Rattle.facts.specs.Cases.{reduced-either}
 use Rattle.safe.specs.Turning.{due-wants}
 
 -- of a record before and after: it wants what it wanted, or wants none and holds what it wanted
@@ -63,11 +63,6 @@ credited-gets : (r s : Room) (m : ℕ) → Gets r s → Gets r (credited s m)
 unfolding credited
 credited-gets r s m g =
     by-test (Gets r) (eqb m 0) (withDebt s nobody m 0) (withDebt s (s .lender) m (s .link)) (λ e. alike r s _ refl refl g) (λ e. alike r s _ refl refl g)
-
--- a GRANT has some mode
-grant-some : (m : ℕ) → (eqb m IR || eqb m R || eqb m IW) ≡ true → 1 ≤ m
-grant-some zero h = absurd (false≢true h)
-grant-some (suc m) h = omega arith
 
 -- what is sent leaves the record as it is
 sent-same : (P : ℕ → Room → Type 0) (w : Work) (s : Send) → P (w .me) (w .room) → P (sendOut w s .me) (sendOut w s .room)
@@ -194,7 +189,7 @@ module _ (n : ℕ) (rooms : ℕ → Room) (kept : List Wire) where
           waits = eqb-true _ _ (r .facts .rightly);
         })
         t
-    receive-got a (msg.Grant m l) r t = grant-got a m (grant-some m (r .facts .fine)) (eqb-true _ _ (and-left _ _ (r .facts .rightly))) l
+    receive-got a (msg.Grant m l) r t = grant-got a m (grant-modes m (r .facts .fine) .0) (eqb-true _ _ (and-left _ _ (r .facts .rightly))) l
     receive-got a (msg.Token m rest l) r t =
         token-got a m some waits rest l
         (arrived-kept n rooms kept w a (r .facts .from-low) (r .facts .apart) m rest l some

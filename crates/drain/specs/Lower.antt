@@ -1,7 +1,6 @@
 -- Settling costs nothing, and a hand-back lowers the measure.
-use mathlib.Core.Path.{_≡_, refl, sym, _∙_, ap}
+use mathlib.Core.Path.{_≡_, sym, _∙_, ap}
 use mathlib.Core.Logic.{_≢_}
-use mathlib.Core.Bool.{true, false}
 use mathlib.Core.List.{List, [], _∷_, _++_, append-assoc}
 use Prim.Native.Nat.{ℕ, _≤_, _<_}
 use native.Mathlib.Omega.{arith}
@@ -15,10 +14,10 @@ use Rattle.room.specs.Owned.{owned}
 use Rattle.room.specs.Rules.{credited, settled}
 use Rattle.table.specs.declared.Wire.{Wire}
 use Rattle.table.specs.declared.Message.the-variants as msg
-use Rattle.rules.specs.Work.{Work, withRoom, send, sendOut, change}
+use Rattle.rules.specs.Work.{Work, send, sendOut, change}
 use Rattle.rules.specs.Rules.{hold, settle, serve, settleOrServe, handBack}
 use Rattle.facts.specs.Wires.{wire}
-use Rattle.kept.specs.Changed.{changed, changed-same, changed-other}
+use Rattle.kept.specs.Changed.{changed, changed-same, changed-elsewhere}
 use Rattle.kept.specs.Acts.{now}
 use Rattle.owning.specs.Exact.{settle-weak}
 use Rattle.measure.specs.Way.{Leads}
@@ -28,7 +27,7 @@ use Rattle.measure.specs.Falls.{falls-handed, not-more-settle}
 use Rattle.safe.specs.Done.{Done}
 use Rattle.safe.specs.Settle.{Owing}
 use Rattle.safe.specs.Asks.{handed-owing}
-use Rattle.drain.specs.Weighs.{Weighs, Rests, weighs-serve}
+use Rattle.drain.specs.Weighs.{Rests, weighs-serve}
 
 -- after what a room has done some heights lead to the token, and the measure by them is below b
 pub record Lower (n : ℕ) (rooms : ℕ → Room) (kept : List Wire) (b : ℕ) (w : Work) : Type 0 where
@@ -81,7 +80,7 @@ module _ (n : ℕ) (rooms : ℕ → Room) (kept : List Wire) (height : ℕ → �
       at-me = changed-same rooms (w .me) (w .room)
 
       others : (c : ℕ) → c ≢ w .me → new c ≡ old c
-      others c e = changed-other rooms (w .me) paid c e ∙ sym (changed-other rooms (w .me) (w .room) c e)
+      others c e = changed-elsewhere rooms (w .me) paid (w .room) c e
 
       now-paid : new (w .me) ≡ credited (old (w .me)) (owned (old (w .me)))
       now-paid = changed-same rooms (w .me) paid ∙ sym (ap (λ (r : Room). credited r (owned r)) at-me)
@@ -107,7 +106,7 @@ hand-back-lower n rooms kept w a idle holds height leads =
     new = changed rooms (w .me) given
 
     others : (c : ℕ) → c ≢ w .me → new c ≡ now rooms w c
-    others c e = changed-other rooms (w .me) given c e ∙ sym (changed-other rooms (w .me) (w .room) c e)
+    others c e = changed-elsewhere rooms (w .me) given (w .room) c e
 
     at-me : now rooms w (w .me) ≡ w .room
     at-me = changed-same rooms (w .me) (w .room)

@@ -1,19 +1,16 @@
 -- What a reached table can still do: at the start at most the bound, and less after each accepted delivery or hand-back.
-use mathlib.Core.Path.{_≡_, refl, subst, sym, _∙_}
+use mathlib.Core.Path.{_≡_, subst}
 use mathlib.Core.Bool.{true}
 use Prim.Native.Nat.{ℕ, _+_, _*_, _≤_, _<_}
 use native.Mathlib.Omega.{arith}
-use lib.Dec.{eqb}
-use borrow.Author.Tests.{eqb-true, eqb-false}
-use Rattle.base.specs.Choice.{split}
 use Rattle.table.specs.declared.Table.{Table}
 use Rattle.table.specs.Numbers.{DONE}
 use Rattle.table.specs.Tables.{roomAt, queueOf, messagesOf, freshTable}
 use Rattle.rules.specs.declared.Event.{Event}
-use Rattle.rules.specs.Refusals.{refusal}
 use Rattle.rules.specs.Step.{stepOf}
 use Rattle.kept.specs.Start.{formed-of}
 use Rattle.facts.specs.Moments.{Formed}
+use Rattle.facts.specs.Accepted.{unrefused}
 use Rattle.measure.specs.Squeeze.{squeeze, squeeze-below, leads-squeezed}
 use Rattle.measure.specs.Bound.{potential-limit}
 use Rattle.measure.specs.Tight.{potential-tight}
@@ -21,7 +18,7 @@ use Rattle.safe.specs.Reached.{Reached}
 use Rattle.safe.specs.Step.{Safe, facts, messages-count}
 use Rattle.safe.specs.Always.{reached-safe, fresh-start}
 use Rattle.drain.specs.Drains.{isDraining, bound}
-use Rattle.drain.specs.Steps.{LeadsIn, weightOf, Lighter, drains-lower}
+use Rattle.drain.specs.Steps.{LeadsIn, weightOf, drains-lower}
 use Rattle.drain.specs.Ways.{Way, runs-way, fresh-way}
 
 -- by some heights that lead to the token the table weighs at most k
@@ -29,11 +26,6 @@ pub record Pot (t : Table) (k : ℕ) : Type 0 where
   pub height : ℕ → ℕ
   pub leads : LeadsIn t height
   pub within : weightOf t height ≤ k
-
--- an accepted event is one that no refusal applies to
-unrefused : (t : Table) (e : Event) → stepOf t e .«number» ≡ DONE → refusal t e ≡ 0
-unfolding stepOf
-unrefused t e h = split (eqb (refusal t e) 0) (λ b. eqb-true _ _ b) (λ b. rw b at h)
 
 pub pot-falls : (n : ℕ) (t : Table) (k : ℕ) → Reached n t → Pot t k → (e : Event) → isDraining e ≡ true → stepOf t e .«number» ≡ DONE
     → (j : ℕ) × (j < k) × Pot (stepOf t e .table) j

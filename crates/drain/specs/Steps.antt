@@ -1,7 +1,7 @@
 -- An accepted delivery or hand-back lowers the measure of the table.
 use mathlib.Core.Path.{_≡_, refl, ap, subst, subst⁻¹}
 use mathlib.Core.Logic.{_≢_, ⊎-elim}
-use mathlib.Core.Bool.{true, false}
+use mathlib.Core.Bool.{true}
 use mathlib.Core.List.{List, [], _++_, append-nil}
 use Prim.Native.Nat.{ℕ, _<_}
 use native.Mathlib.Omega.{arith}
@@ -17,7 +17,6 @@ use Rattle.table.specs.declared.Queued.{Queued}
 use Rattle.table.specs.declared.Answer.{Answer}
 use Rattle.table.specs.declared.Found.{Found}
 use Rattle.table.specs.declared.Found.the-variants as found
-use Rattle.table.specs.declared.Message.{Message}
 use Rattle.table.specs.Tables.{roomAt, queueOf, messagesOf, answer}
 use Rattle.table.specs.Oldest.{oldestOf}
 use Rattle.rules.specs.declared.Event.{Event}

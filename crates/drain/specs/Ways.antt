@@ -2,10 +2,9 @@
 use mathlib.Core.Path.{_≡_, refl, sym, _∙_, ap, subst⁻¹}
 use mathlib.Core.Bool.{true, false, _&&_}
 use mathlib.Core.List.{List, [], _∷_, _++_, append-assoc, append-nil}
-use Prim.Native.Nat.{ℕ, _≤_, _<_}
+use Prim.Native.Nat.{ℕ, _≤_}
 use native.Mathlib.Omega.{arith}
 use lib.Dec.{eqb}
-use lib.ListN.{length}
 use borrow.Author.Tests.{eqb-true, ne-eqb}
 use Rattle.base.specs.Choice.{by-test, split}
 use Rattle.base.specs.Tests.{or-left, or-right}
@@ -19,7 +18,7 @@ use Rattle.table.specs.declared.Table.{Table}
 use Rattle.table.specs.declared.Wire.{Wire}
 use Rattle.table.specs.declared.Answer.{Answer}
 use Rattle.table.specs.declared.Message.the-variants as msg
-use Rattle.table.specs.Tables.{roomAt, messagesOf, freshTable, answer}
+use Rattle.table.specs.Tables.{roomAt, messagesOf, freshTable}
 use Rattle.rules.specs.declared.Event.{Event}
 use Rattle.rules.specs.Events.{ASK, UPGRADE, DELIVER, isAsk, isUpgrade, isHandBack, isDeliver}
 use Rattle.rules.specs.Refusals.{refusal}
@@ -28,24 +27,24 @@ use Rattle.rules.specs.Rules.{hold, want, isEmpty, askWith, askWithout, ask, up
 use Rattle.rules.specs.Step.{outcome, made, stepOf, runs}
 use Rattle.facts.specs.Accepted.{Accepted, accepted}
 use Rattle.facts.specs.Wires.{wire}
-use Rattle.kept.specs.Changed.{changed, changed-same, changed-other}
+use Rattle.kept.specs.Changed.{changed, changed-same, changed-elsewhere}
 use Rattle.kept.specs.Acts.{now}
 use Rattle.kept.specs.Start.{same-rooms}
-use Rattle.measure.specs.Way.{Leads, rerooted}
+use Rattle.base.specs.Ranks.{rerooted}
+use Rattle.measure.specs.Way.{Leads}
 use Rattle.measure.specs.Heights.{leads-modes, leads-request-sent}
 use Rattle.measure.specs.Start.{leads-fresh}
-use Rattle.safe.specs.Done.{Done}
 use Rattle.safe.specs.Asks.{ask-safe, upgrade-safe}
 use Rattle.safe.specs.Step.{Safe, begins, shaped, facts, unowned, messages-count, step-refused, step-safe}
 use Rattle.drain.specs.Drains.{isDraining}
-use Rattle.drain.specs.Steps.{LeadsIn, Lighter, led-after, led-here, drains-lower}
+use Rattle.drain.specs.Steps.{LeadsIn, led-after, led-here, drains-lower}
 
 module _ (n : ℕ) (rooms : ℕ → Room) (kept : List Wire) (w : Work) (height : ℕ → ℕ) (leads : Leads n (now rooms w) (kept ++ w .sent) height) where
   -- another held and another wanted mode lead nobody astray
   modes-lead : (h v : ℕ) → Leads n (changed rooms (w .me) (withModes (w .room) h v)) (kept ++ w .sent) height
   modes-lead h v =
       leads-modes n (now rooms w) (changed rooms (w .me) (withModes (w .room) h v)) (kept ++ w .sent) (w .me)
-      (λ c e. changed-other rooms (w .me) (withModes (w .room) h v) c e ∙ sym (changed-other rooms (w .me) (w .room) c e)) height leads h v
+      (λ c e. changed-elsewhere rooms (w .me) (withModes (w .room) h v) (w .room) c e) height leads h v
       (changed-same rooms (w .me) (withModes (w .room) h v) ∙ sym (ap (λ (r : Room). withModes r h v) (changed-same rooms (w .me) (w .room))))
 
   abbrev Led : Work → Type 0

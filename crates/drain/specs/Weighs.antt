@@ -1,7 +1,7 @@
 -- Serving costs nothing: each turn leaves the measure where it was, or lower, and the heights as they were.
 use mathlib.Core.Path.{_≡_, refl, sym, _∙_, ap}
 use mathlib.Core.Logic.{_≢_}
-use mathlib.Core.Bool.{true, false, not, _&&_}
+use mathlib.Core.Bool.{true, not, _&&_}
 use mathlib.Core.List.{List, [], _∷_, _++_, append-assoc}
 use Prim.Native.Nat.{ℕ, _≤_, _<_}
 use native.Mathlib.Omega.{arith}
@@ -21,7 +21,7 @@ use Rattle.table.specs.declared.Message.the-variants as msg
 use Rattle.rules.specs.Work.{Work, withQueue, send}
 use Rattle.rules.specs.Rules.{hold, lend, pass, upgradeWaits, upgraded, serveQueue, serve}
 use Rattle.facts.specs.Wires.{wire}
-use Rattle.kept.specs.Changed.{changed, changed-same, changed-other}
+use Rattle.kept.specs.Changed.{changed, changed-same, changed-elsewhere}
 use Rattle.kept.specs.Acts.{now}
 use Rattle.measure.specs.Way.{Leads}
 use Rattle.measure.specs.Measure.{potential}
@@ -44,7 +44,7 @@ module _ (n : ℕ) (rooms : ℕ → Room) (kept : List Wire) (height : ℕ → �
     here = changed-same rooms (w .me) r
 
     others : (c : ℕ) → c ≢ w .me → changed rooms (w .me) r c ≡ now rooms w c
-    others c e = changed-other rooms (w .me) r c e ∙ sym (changed-other rooms (w .me) (w .room) c e)
+    others c e = changed-elsewhere rooms (w .me) r (w .room) c e
 
   own : (w : Work) → now rooms w (w .me) ≡ w .room
   own w = changed-same rooms (w .me) (w .room)

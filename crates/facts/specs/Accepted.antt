@@ -7,11 +7,14 @@ use Prim.Native.Nat.{ℕ, _≤_, _<_}
 use native.Mathlib.Omega.{arith}
 use lib.Dec.{ltb, leb, eqb}
 use borrow.Author.Tests.{ltb-true, leb-true, leb-false, eqb-true, eqb-false, not-false}
+use Rattle.base.specs.Choice.{by-test}
 use Rattle.base.specs.Tests.{and-left, and-right}
 use Rattle.base.specs.Below.{all-at}
 use Rattle.modes.specs.Codes.{IR, U, W}
 use Rattle.table.specs.declared.Table.{Table}
-use Rattle.table.specs.Tables.{roomAt}
+use Rattle.table.specs.declared.Answer.{Answer}
+use Rattle.table.specs.Numbers.{DONE}
+use Rattle.table.specs.Tables.{roomAt, answer}
 use Rattle.table.specs.declared.Found.{Found}
 use Rattle.table.specs.declared.Found.the-variants as found
 use Rattle.table.specs.Oldest.{oldestOf}
@@ -19,6 +22,7 @@ use Rattle.table.specs.Formed.{isMode, wellFormed}
 use Rattle.rules.specs.declared.Event.{Event}
 use Rattle.rules.specs.Limits.{busyLimit, wornLimit}
 use Rattle.rules.specs.Events.{isAsk, isUpgrade, isHandBack, isDeliver}
+use Rattle.rules.specs.Step.{made, stepOf}
 use Rattle.rules.specs.Refusals.{Row, row, first, refusals, refusal, isFound, anyWorn}
 
 -- the first number is 0 only where the row does not apply
@@ -96,3 +100,10 @@ accepted t e h =
       few = λ a. leb-false _ _ (rw a at (nine .0));
       unworn = λ a. all-unworn t (rw a at (ten .0));
     }
+
+-- an event that was accepted is one that no refusal applies to
+pub unrefused : (t : Table) (e : Event) → stepOf t e .«number» ≡ DONE → refusal t e ≡ DONE
+unfolding stepOf
+unrefused t e =
+    by-test (λ (r : Answer). r .«number» ≡ DONE → refusal t e ≡ DONE) (eqb (refusal t e) DONE) (made t e) (answer (refusal t e) t)
+    (λ b h. eqb-true _ _ b) (λ b h. h)

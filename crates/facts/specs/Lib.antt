@@ -8,3 +8,4 @@ pub mod Names
 pub mod Search
 pub mod Accepted
 pub mod Wires
+pub mod Cases

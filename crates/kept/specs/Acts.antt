@@ -18,7 +18,7 @@ use Rattle.table.specs.Formed.{due, messageFine, namesRightly, isToken, isNamed
 use Rattle.rules.specs.Work.{Work, withRoom, send, join}
 use Rattle.facts.specs.Rooms.{RoomFacts}
 use Rattle.facts.specs.Moments.{QueuedFacts}
-use Rattle.kept.specs.Changed.{changed, changed-same, changed-other}
+use Rattle.kept.specs.Changed.{changed, changed-same, changed-elsewhere}
 use Rattle.kept.specs.Moment.{Moment, waiting, empty}
 use Rattle.kept.specs.Hand.{put-message, put-queued}
 use Rattle.kept.specs.Change.{change, change-alike, change-passing}
@@ -54,7 +54,7 @@ module _ (n : ℕ) (rooms : ℕ → Room) (kept : List Wire) (w : Work) where
   module _ (hand : ℕ → ℕ) (loose : ℕ) (a : At n rooms kept w hand loose) (r : Room) (f : RoomFacts n (w .me) r)
       (long : length (r .entries) ≡ roomLimit) where
     others : (c : ℕ) → c ≢ w .me → changed rooms (w .me) r c ≡ now rooms w c
-    others c e = changed-other rooms (w .me) r c e ∙ sym (changed-other rooms (w .me) (w .room) c e)
+    others c e = changed-elsewhere rooms (w .me) r (w .room) c e
 
     facts-here : RoomFacts n (w .me) (changed rooms (w .me) r (w .me))
     facts-here = rw (changed-same rooms (w .me) r) f

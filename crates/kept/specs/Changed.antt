@@ -20,6 +20,11 @@ module _ (rooms : ℕ → Room) (x : ℕ) (r : Room) where
   unfolding changed
   changed-other c h = simp (ne-eqb c x h)
 
+  -- whatever record room x has, the others are the same
+  pub changed-elsewhere : (s : Room) (c : ℕ) → c ≢ x → changed rooms x r c ≡ changed rooms x s c
+  unfolding changed
+  changed-elsewhere s c h = simp (ne-eqb c x h)
+
   -- rooms that are r at x, and as before elsewhere, are these
   pub changed-is : (now : ℕ → Room) → now x ≡ r → ((c : ℕ) → c ≢ x → now c ≡ rooms c) → changed rooms x r ≡ now
   changed-is now here there = fun-ext λ c. go c (same? c x)

@@ -38,7 +38,7 @@ use Rattle.kept.specs.Turns.{held-waits, waits-one}
 use Rattle.kept.specs.Serve.{serve-kept, settle-or-serve-kept}
 
 -- the modes of a GRANT: some mode, and neither U nor W
-grant-modes : (m : ℕ) → (eqb m IR || eqb m R || eqb m IW) ≡ true → (1 ≤ m) × (m ≤ W) × (m ≢ U) × (m ≢ W)
+pub grant-modes : (m : ℕ) → (eqb m IR || eqb m R || eqb m IW) ≡ true → (1 ≤ m) × (m ≤ W) × (m ≢ U) × (m ≢ W)
 grant-modes m h = go (or-use (eqb m IR || eqb m R) (eqb m IW) h)
   where
     is : (k : ℕ) → m ≡ k → (1 ≤ k) × (k ≤ W) × (k ≢ U) × (k ≢ W) → (1 ≤ m) × (m ≤ W) × (m ≢ U) × (m ≢ W)

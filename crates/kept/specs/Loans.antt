@@ -1,5 +1,5 @@
 -- "Lend" and "pass", with the name of the room that gets the loan or the token in hand.
-use mathlib.Core.Path.{_≡_, refl, sym, _∙_, ap}
+use mathlib.Core.Path.{_≡_, refl, _∙_, ap}
 use mathlib.Core.Logic.{_≢_}
 use mathlib.Core.Bool.{Bool, true, false}
 use mathlib.Core.List.{List}
@@ -22,7 +22,7 @@ use Rattle.table.specs.Formed.{due}
 use Rattle.rules.specs.Work.{Work, withRoom, withWorn}
 use Rattle.rules.specs.Rules.{lend, pass}
 use Rattle.facts.specs.Rooms.{RoomFacts}
-use Rattle.kept.specs.Changed.{changed, changed-other}
+use Rattle.kept.specs.Changed.{changed, changed-elsewhere}
 use Rattle.kept.specs.Owns.{owned-code, owned-held}
 use Rattle.kept.specs.Records.{counter-facts, lost-facts, owing-facts, entry-set-facts}
 use Rattle.kept.specs.Acts.{At, Whole, now, only, own-room, set-alike, set-passing}
@@ -36,7 +36,7 @@ worn-too n rooms kept w b hand loose a = record { small = a .small; low = a .low
 module _ (n : ℕ) (rooms : ℕ → Room) (kept : List Wire) (w : Work) (y m : ℕ) (low : y < n) (other : y ≢ w .me) where
   -- the record of y is not the one that changes
   there : (r : Room) → changed rooms (w .me) r y ≡ now rooms w y
-  there r = changed-other rooms (w .me) r y other ∙ sym (changed-other rooms (w .me) (w .room) y other)
+  there r = changed-elsewhere rooms (w .me) r (w .room) y other
 
   -- "Lend m to y": y waits for m and has no token
   pub lend-kept : canLend (owned (w .room)) m ≡ true → due (now rooms w y) ≡ m → now rooms w y .token ≡ false

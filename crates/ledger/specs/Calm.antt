@@ -12,7 +12,7 @@ use Rattle.room.specs.Record.{entryAt, withModes}
 use Rattle.table.specs.declared.Wire.{Wire}
 use Rattle.table.specs.declared.Message.the-variants as msg
 use Rattle.facts.specs.Wires.{wire}
-use Rattle.ledger.specs.Loans.{flush, owe, arriving, debt, flushed, owed, Ledger}
+use Rattle.ledger.specs.Loans.{flush, owe, arriving, debt, Ledger}
 use Rattle.ledger.specs.Frames.{alike, still}
 use Rattle.ledger.specs.Lends.{pair-kept}
 use Rattle.ledger.specs.Takes.{Oldest, gone-still}

@@ -12,7 +12,6 @@ use Rattle.room.specs.declared.Room.{Room}
 use Rattle.table.specs.declared.Wire.{Wire}
 use Rattle.table.specs.declared.Message.{Message}
 use Rattle.table.specs.Oldest.{between}
-use Rattle.facts.specs.Wires.{wire}
 use Rattle.ledger.specs.Loans.{arriving}
 
 -- what is read off the changed record as off the old one is read alike off every room

@@ -1,33 +1,27 @@
 -- LINKS is kept by each change: no counter falls, and each new number is one that was just counted to.
 use mathlib.Core.Path.{_≡_, refl, sym, _∙_, ap}
 use mathlib.Core.Logic.{_≢_, _⊎_, inl, inr, ⊎-elim}
-use mathlib.Core.Bool.{Bool, true, false, _&&_}
+use mathlib.Core.Bool.{Bool, true, false}
 use mathlib.Core.List.{List, [], _∷_, _++_}
 use Prim.Native.Nat.{ℕ, _≤_, _<_}
 use native.Mathlib.Omega.{arith}
 use lib.Dec.{eqb}
 use Rattle.base.specs.Choice.{by-test}
 use Rattle.base.specs.Sums.{same?}
-use Rattle.base.specs.Lists.{Mem, mem-snoc, remove, mem-remove, mem-at}
-use Rattle.base.specs.Folds.{folds}
-use Rattle.modes.specs.Modes.{isStronger}
+use Rattle.base.specs.Lists.{Mem, mem-snoc}
 use Rattle.room.specs.declared.Room.{Room}
 use Rattle.room.specs.Limits.{roomLimit, nobody}
-use Rattle.room.specs.Record.{entryOf, entryAt, withModes, withDebt, setEntry}
-use Rattle.room.specs.Rules.{nextLink, lentTo, left, remaining, passedTo, credited, lifted, tokenedBy, reduced}
+use Rattle.room.specs.Record.{withModes, withDebt}
+use Rattle.room.specs.Rules.{nextLink, lentTo, left, remaining, passedTo}
 use Rattle.table.specs.declared.Wire.{Wire}
-use Rattle.table.specs.declared.Message.{Message}
 use Rattle.table.specs.declared.Message.the-variants as msg
-use Rattle.table.specs.Tables.{noWire}
 use Rattle.table.specs.Oldest.{between}
 use Rattle.table.specs.Formed.{isToken}
 use Rattle.facts.specs.Wires.{wire}
-use Rattle.ledger.specs.Loans.{arriving}
 use Rattle.ledger.specs.Links.{lift, reach, Links}
 use Rattle.ledger.specs.Arrivals.{arriving-this, more}
 use Rattle.ledger.specs.Frames.{alike, same-wire}
-use Rattle.ledger.specs.Takes.{Oldest, gone-other, gone-still, gone-first}
-use Rattle.ledger.specs.Reach.{lifted-own, lifted-link, lift-still, reach-more, reach-up, reach-sent, reach-still}
+use Rattle.ledger.specs.Reach.{lifted-link, reach-more, reach-sent, reach-still}
 
 -- what LINKS says of one message
 pub record Linked (rooms : ℕ → Room) (messages : List Wire) (w : Wire) : Type 0 where

@@ -4,8 +4,6 @@ use mathlib.Core.Bool.{true, false, true≢false}
 use mathlib.Core.List.{List, [], _∷_, _++_}
 use Prim.Native.Nat.{ℕ, _≤_}
 use native.Mathlib.Omega.{arith}
-use lib.Dec.{ltb}
-use borrow.Author.Tests.{ltb-true, ltb-false}
 use Rattle.base.specs.Choice.{by-test, split}
 use Rattle.base.specs.Lists.{Mem}
 use Rattle.base.specs.Folds.{folds, folds-still}
@@ -15,21 +13,19 @@ use Rattle.table.specs.declared.Message.{Message}
 use Rattle.table.specs.declared.Message.the-variants as msg
 use Rattle.table.specs.Oldest.{between}
 use Rattle.table.specs.Formed.{isToken}
+use Rattle.facts.specs.Cases.{lifted-either}
 use Rattle.ledger.specs.Loans.{arriving}
 use Rattle.ledger.specs.Links.{lift}
 use Rattle.ledger.specs.Arrivals.{arriving-other, arriving-this, more}
 
 pub lifted-own : (k l : ℕ) → k ≤ lifted k l
-unfolding lifted
-lifted-own k l = by-test (λ (v : ℕ). k ≤ v) (ltb k l) l k (λ b. omega (arith, ltb-true k l b)) (λ b. omega arith)
+lifted-own k l = lifted-either k l (λ (v : ℕ). k ≤ v) (λ h. omega arith) (λ h. omega arith)
 
 pub lifted-link : (k l : ℕ) → l ≤ lifted k l
-unfolding lifted
-lifted-link k l = by-test (λ (v : ℕ). l ≤ v) (ltb k l) l k (λ b. omega arith) (λ b. ltb-false k l b)
+lifted-link k l = lifted-either k l (λ (v : ℕ). l ≤ v) (λ h. omega arith) (λ h. h)
 
 pub lifted-below : (k l b : ℕ) → k ≤ b → l ≤ b → lifted k l ≤ b
-unfolding lifted
-lifted-below k l b p q = by-test (λ (v : ℕ). v ≤ b) (ltb k l) l k (λ t. q) (λ t. p)
+lifted-below k l b p q = lifted-either k l (λ (v : ℕ). v ≤ b) (λ h. q) (λ h. p)
 
 lift-up : (m : Message) (k : ℕ) → k ≤ lift k m
 unfolding lift

@@ -8,13 +8,10 @@ use native.Mathlib.Nat.{not-suc-le-zero, le-of-suc-le-suc}
 use native.Mathlib.Omega.{arith}
 use lib.ListN.{length, getD, length-append, List·getD-append}
 use lib.Seq.{getD-at}
-use lib.Dec.{eqb}
-use Rattle.base.specs.Choice.{by-test}
 use Rattle.base.specs.Tests.{clash}
 use Rattle.base.specs.Sums.{below?}
 use Rattle.base.specs.Lists.{Mem, mem-at, mem-place, mem-snoc, remove, mem-remove}
 use Rattle.room.specs.declared.Room.{Room}
-use Rattle.room.specs.Record.{withDebt}
 use Rattle.room.specs.Rules.{nextLink, left, remaining, passedTo}
 use Rattle.table.specs.declared.Wire.{Wire}
 use Rattle.table.specs.declared.Message.{Message}
@@ -23,6 +20,7 @@ use Rattle.table.specs.Tables.{noWire}
 use Rattle.table.specs.Oldest.{between}
 use Rattle.table.specs.Formed.{isToken}
 use Rattle.facts.specs.Wires.{wire}
+use Rattle.facts.specs.Cases.{passed-either}
 use Rattle.ledger.specs.Links.{Along, Sender}
 use Rattle.ledger.specs.Frames.{same-wire, sender-is, receiver-is}
 use Rattle.ledger.specs.Takes.{Oldest}
@@ -139,13 +137,6 @@ module _ (old new : ℕ → Room) (messages : List Wire) (sender : Sender old me
               (λ q. rw q (fits w (was w i m rest l e) m rest l e o k idle (ap (λ (w : Wire). w .message) (sym q) ∙ f) g)) (mem-snoc messages x j);
           behind = behind-sent;
         }
-
--- what holds whether something remains or not
-passed-either : (r : Room) (y : ℕ) (P : Room → Type 0) → P (left r y) → P (withDebt (left r y) y (remaining r y) (nextLink (r .counter)))
-    → P (passedTo r y)
-unfolding passedTo
-passed-either r y P p q =
-    by-test P (eqb (remaining r y) 0) (left r y) (withDebt (left r y) y (remaining r y) (nextLink (r .counter))) (λ b. p) (λ b. q)
 
 -- "Passing to w .. toward is w": the only TOKEN, and no REQUEST of its sender is under way
 module _ (old new : ℕ → Room) (messages : List Wire) (me y m : ℕ) (here : new me ≡ passedTo (old me) y)

@@ -1,7 +1,7 @@
 -- LEDGER is kept where a message is taken off its wire and does its work: both folds had it in them already.
 use mathlib.Core.Path.{_≡_, refl, sym, _∙_, ap}
 use mathlib.Core.Logic.{_≢_, _⊎_, inl, inr, ⊎-elim}
-use mathlib.Core.Bool.{Bool, true, false, _&&_}
+use mathlib.Core.Bool.{Bool, false, _&&_}
 use mathlib.Core.List.{List}
 use Prim.Native.Nat.{ℕ, _≤_, _<_}
 use native.Mathlib.Omega.{arith}
@@ -10,7 +10,7 @@ use lib.ListN.{length, getD}
 use lib.Seq.{getD-set-same, getD-set-other}
 use Rattle.base.specs.Choice.{by-test}
 use Rattle.base.specs.Sums.{same?}
-use Rattle.base.specs.Lists.{Mem, remove}
+use Rattle.base.specs.Lists.{remove}
 use Rattle.base.specs.Folds.{folds, folds-skip}
 use Rattle.modes.specs.Modes.{isStronger}
 use Rattle.room.specs.declared.Room.{Room}
@@ -26,7 +26,7 @@ use Rattle.table.specs.Oldest.{between}
 use Rattle.facts.specs.Wires.{wire}
 use Rattle.ledger.specs.Loans.{flush, owe, arriving, debt, flushed, owed, Ledger}
 use Rattle.ledger.specs.Arrivals.{less-other, less-oldest}
-use Rattle.ledger.specs.Frames.{alike, other-sender, other-receiver, same-wire, still}
+use Rattle.ledger.specs.Frames.{other-sender, other-receiver, same-wire, still}
 use Rattle.ledger.specs.Debts.{debt-here, debt-none}
 
 -- The message at place k is the oldest from a to me.

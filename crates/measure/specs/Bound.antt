@@ -7,7 +7,6 @@ use native.Mathlib.Nat.{mul-one, mul-add, add-mul, mul-left-comm, mul-le-mul-rig
 use native.Mathlib.Omega.{arith}
 use lib.Dec.{ltb}
 use lib.ListN.{length}
-use Rattle.base.specs.Choice.{if_then_else_}
 use Rattle.base.specs.Sums.{one, sum-le, sum-add, sum-bound, countBelow, count-below-le}
 use Rattle.base.specs.Lists.{total, count, Mem}
 use Rattle.room.specs.declared.Room.{Room}

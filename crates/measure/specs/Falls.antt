@@ -9,6 +9,7 @@ use lib.Dec.{ltb}
 use borrow.Author.Tests.{lt-ltb}
 use Rattle.base.specs.Sums.{one, one-le, sum}
 use Rattle.base.specs.Folds.{folds}
+use Rattle.base.specs.Ranks.{rerooted}
 use Rattle.base.specs.Lists.{remove}
 use Rattle.modes.specs.Codes.{IR}
 use Rattle.modes.specs.Modes.{isStronger}
@@ -27,8 +28,7 @@ use Rattle.facts.specs.Wires.{wire, leavingSent}
 use Rattle.ledger.specs.Takes.{Oldest}
 use Rattle.bounds.specs.Bounds.{level, isRequest}
 use Rattle.bounds.specs.Weights.{level-le, level-none, level-falls, requests-sent, requests-taken, requests-leaving}
-use Rattle.measure.specs.Cases.{passed-either, credited-either, reduced-either}
-use Rattle.measure.specs.Way.{rerooted}
+use Rattle.facts.specs.Cases.{passed-either, credited-either, reduced-either}
 use Rattle.measure.specs.Measure.{pending, tokensIn, charge, follow, holdWeight, nothing, own, load, potential}
 use Rattle.measure.specs.Piles.{pile-flag, pile-append, pile-sent, pile-taken, pile-token-taken}
 use Rattle.measure.specs.Loads.{potential-at, potential-dropped, tokens-sent, tokens-taken, tokens-leaving, leaving-paid, owns}

@@ -8,9 +8,9 @@ use native.Mathlib.Omega.{arith}
 use lib.Dec.{eqb}
 use lib.ListN.{length, getD}
 use borrow.Author.Tests.{eq-eqb, ne-eqb}
-use Rattle.base.specs.Choice.{by-test}
 use Rattle.base.specs.Tests.{clash}
 use Rattle.base.specs.Sums.{one, same?}
+use Rattle.base.specs.Ranks.{rerooted, rerooted-here, rerooted-other}
 use Rattle.base.specs.Lists.{total, remove, total-append, total-snoc, total-remove, mem-at}
 use Rattle.room.specs.declared.Room.{Room}
 use Rattle.room.specs.Record.{withModes, withDebt}
@@ -24,22 +24,8 @@ use Rattle.table.specs.Formed.{isToken}
 use Rattle.facts.specs.Wires.{wire, leavingSent}
 use Rattle.ledger.specs.Frames.{alike}
 use Rattle.ledger.specs.Links.{Sender}
-use Rattle.measure.specs.Way.{passing, Leads, rerooted}
-use Rattle.measure.specs.Cases.{leaving-either, credited-either, reduced-either}
-
--- re-rooted heights
-module _ (me : ℕ) (height : ℕ → ℕ) where
-  pub rerooted-here : rerooted me height me ≡ 0
-  unfolding rerooted
-  rerooted-here = simp (eq-eqb me me refl)
-
-  pub rerooted-other : (c : ℕ) → c ≢ me → rerooted me height c ≡ height c + 1
-  unfolding rerooted
-  rerooted-other c ne = simp (ne-eqb c me ne)
-
-  pub rerooted-le : (c : ℕ) → rerooted me height c ≤ height c + 1
-  unfolding rerooted
-  rerooted-le c = by-test (λ (k : ℕ). k ≤ height c + 1) (eqb c me) 0 (height c + 1) (λ e. omega arith) (λ e. omega arith)
+use Rattle.measure.specs.Way.{passing, Leads}
+use Rattle.facts.specs.Cases.{leaving-either, credited-either, reduced-either}
 
 -- TOKENs of a room: one message more, one less, and what goes to an old lender
 module _ (c : ℕ) (l : List Wire) where

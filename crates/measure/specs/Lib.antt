@@ -1,4 +1,3 @@
-pub mod Cases
 pub mod Way
 pub mod Heights
 pub mod Squeeze

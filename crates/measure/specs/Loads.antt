@@ -18,7 +18,7 @@ use Rattle.table.specs.Formed.{isToken}
 use Rattle.facts.specs.Wires.{wire, leavingSent}
 use Rattle.bounds.specs.Bounds.{level}
 use Rattle.bounds.specs.Weights.{level-falls, requests}
-use Rattle.measure.specs.Cases.{leaving-either}
+use Rattle.facts.specs.Cases.{leaving-either}
 use Rattle.measure.specs.Measure.{pending, tokensIn, nameWeight, charge, pile, nothing, own, load, potential}
 use Rattle.measure.specs.Piles.{pile-share}
 

@@ -8,7 +8,7 @@ use native.Mathlib.Omega.{arith}
 use lib.Dec.{eqb}
 use lib.ListN.{length-append}
 use borrow.Author.Tests.{eqb-true}
-use Rattle.base.specs.Choice.{if_then_else_, split}
+use Rattle.base.specs.Choice.{split}
 use Rattle.base.specs.Tests.{clash, and-left, and-right}
 use Rattle.base.specs.Sums.{one}
 use Rattle.base.specs.Folds.{folds}

@@ -7,10 +7,11 @@ use Prim.Native.Nat.{ℕ, zero, suc, _+_, _≤_, _<_}
 use native.Mathlib.Nat.{not-suc-le-zero, le-of-suc-le-suc}
 use native.Mathlib.Omega.{arith}
 use lib.ListN.{length, getD}
-use Rattle.base.specs.Choice.{if_then_else_, split}
+use Rattle.base.specs.Choice.{split}
 use Rattle.base.specs.Tests.{or-use, or-left, or-right, clash}
 use Rattle.base.specs.Sums.{one}
 use Rattle.base.specs.Folds.{folds}
+use Rattle.base.specs.Ranks.{rerooted, rerooted-here, rerooted-le}
 use Rattle.base.specs.Lists.{total, remove}
 use Rattle.table.specs.declared.Wire.{Wire}
 use Rattle.table.specs.declared.Message.{Message}
@@ -22,8 +23,6 @@ use Rattle.facts.specs.Wires.{wire}
 use Rattle.ledger.specs.Frames.{receiver-is}
 use Rattle.bounds.specs.Bounds.{isRequest}
 use Rattle.bounds.specs.Weights.{requests}
-use Rattle.measure.specs.Way.{rerooted}
-use Rattle.measure.specs.Heights.{rerooted-here, rerooted-le}
 use Rattle.measure.specs.Measure.{charge, follow, above, extra, pile}
 use Rattle.measure.specs.Behind.{follow-other, follow-token, follow-aside}
 

@@ -13,8 +13,8 @@ use Rattle.room.specs.declared.Room.{Room}
 use Rattle.room.specs.Limits.{roomLimit}
 use Rattle.room.specs.Record.{noRoom, blankRoom, withToken}
 use Rattle.table.specs.Tables.{roomAt, freshTable}
-use Rattle.measure.specs.Way.{Leads, rerooted}
-use Rattle.measure.specs.Heights.{rerooted-here, rerooted-other}
+use Rattle.measure.specs.Way.{Leads}
+use Rattle.base.specs.Ranks.{rerooted, rerooted-here, rerooted-other}
 
 -- room 0 is the bottom, and every other room is 1 above it
 pub leads-fresh : (n : ℕ) → n ≤ roomLimit → Leads n (roomAt (freshTable n)) [] (rerooted 0 (λ c. 0))

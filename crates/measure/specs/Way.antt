@@ -2,9 +2,8 @@
 use mathlib.Core.Path.{_≡_}
 use mathlib.Core.Bool.{false, _&&_}
 use mathlib.Core.List.{List}
-use Prim.Native.Nat.{ℕ, _+_, _<_}
+use Prim.Native.Nat.{ℕ, _<_}
 use lib.Dec.{eqb}
-use Rattle.base.specs.Choice.{if_then_else_}
 use Rattle.base.specs.Lists.{count}
 use Rattle.room.specs.declared.Room.{Room}
 use Rattle.table.specs.declared.Wire.{Wire}
@@ -23,7 +22,3 @@ Leads n rooms messages height =
 pub record Way (n : ℕ) (rooms : ℕ → Room) (messages : List Wire) : Type 0 where
   pub height : ℕ → ℕ
   pub leads : Leads n rooms messages height
-
--- the heights with `me` at the bottom: it gets 0, and everyone else one more
-unfoldable pub rerooted : ℕ → (ℕ → ℕ) → ℕ → ℕ
-rerooted me height c = if eqb c me then 0 else height c + 1

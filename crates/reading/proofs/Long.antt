@@ -1,5 +1,5 @@
 -- "A line of another form, or a longer one, answers 2": no line of more than 7 bytes is of a known form, so one of more than 64 is none.
-use mathlib.Core.Path.{_≡_, refl, sym, _∙_, ap}
+use mathlib.Core.Path.{_≡_, refl, sym}
 use mathlib.Core.Logic.{_⊎_, inl, inr}
 use mathlib.Core.List.{List, [], _∷_}
 use Prim.Native.Nat.{ℕ, suc, _+_, _≤_, _<_}
@@ -8,9 +8,7 @@ use lib.Dec.{eqb}
 use lib.ListN.{length}
 use Rattle.base.specs.Choice.{split}
 use Rattle.base.specs.Sums.{below?}
-use Rattle.reading.specs.declared.Command.{Command}
 use Rattle.reading.specs.declared.Command.the-variants as command
-use Rattle.rules.specs.Events.{UPGRADE, HANDBACK}
 use Rattle.reading.specs.Lines.{noNumber, numberOf, modeOf, before, behind, freshCommand, ownCommand, askCommand, deliverCommand, order, commandOf}
 use Rattle.reading.proofs.Words.{number-other, mode-other}
 

@@ -1,11 +1,11 @@
 -- Demand 3, first half, of every table that events lead to from a fresh one; and what later work needs of such a table.
-use mathlib.Core.Path.{_≡_, refl, sym, _∙_, ap, subst}
+use mathlib.Core.Path.{_≡_, refl, subst}
 use mathlib.Core.Logic.{_≢_}
-use mathlib.Core.Bool.{true, false, not, _&&_, _||_}
-use Prim.Native.Nat.{ℕ, _+_, _≤_, _<_}
+use mathlib.Core.Bool.{true, false}
+use Prim.Native.Nat.{ℕ, _≤_, _<_}
 use native.Mathlib.Omega.{arith}
-use lib.Dec.{leb, eqb}
-use borrow.Author.Tests.{lt-leb, eq-eqb, ne-eqb}
+use lib.Dec.{leb}
+use borrow.Author.Tests.{lt-leb, ne-eqb}
 use Rattle.room.specs.Limits.{roomLimit}
 use Rattle.table.specs.declared.Table.{Table}
 use Rattle.table.specs.declared.Found.the-variants as found
@@ -15,12 +15,11 @@ use Rattle.table.specs.Tables.{noWire, roomAt, messagesOf, queueOf, freshTable}
 use Rattle.table.specs.Oldest.{oldestOf}
 use Rattle.table.specs.Formed.{tokens, wellFormed}
 use Rattle.rules.specs.declared.Event.{Event}
-use Rattle.rules.specs.Events.{HANDBACK, DELIVER, isAsk, isUpgrade, isHandBack, isDeliver}
+use Rattle.rules.specs.Events.{HANDBACK, DELIVER}
 use Rattle.rules.specs.Refusals.{first, refusals, refusal, isFound}
-use Rattle.rules.specs.Step.{stepOf, runs}
+use Rattle.rules.specs.Step.{stepOf}
 use Rattle.base.specs.Lists.{mem-at}
 use Rattle.facts.specs.Search.{oldest-low, oldest-there}
-use Rattle.facts.specs.Wires.{wire}
 use Rattle.kept.specs.Fresh.{fresh-has}
 use Rattle.tree.specs.Agreement.{agreement}
 use Rattle.bounds.specs.Limits.{messages-most}

@@ -1,7 +1,7 @@
 -- ASK, UPGRADE and HANDBACK keep the invariant.
 use mathlib.Core.Path.{_≡_, refl, sym, _∙_, ap, subst}
 use mathlib.Core.Logic.{_≢_, _⊎_}
-use mathlib.Core.Bool.{Bool, true, false, _&&_, false≢true}
+use mathlib.Core.Bool.{true, false, _&&_, false≢true}
 use mathlib.Core.List.{List, [], _∷_, _++_, append-assoc}
 use Prim.Native.Nat.{ℕ, _≤_, _<_}
 use native.Mathlib.Omega.{arith}
@@ -11,7 +11,7 @@ use borrow.Author.Tests.{eqb-true}
 use Rattle.base.specs.Choice.{by-test}
 use Rattle.base.specs.Tests.{and-left, and-right}
 use Rattle.base.specs.Lists.{Mem}
-use Rattle.modes.specs.Codes.{IR, U, W}
+use Rattle.modes.specs.Codes.{U, W}
 use Rattle.modes.specs.Modes.{agrees, canLend}
 use Rattle.modes.specs.Under.{small}
 use Rattle.room.specs.declared.Room.{Room}
@@ -33,22 +33,20 @@ use Rattle.kept.specs.Asks.{hold-kept, ask-kept, upgrade-kept}
 use Rattle.ledger.specs.Frames.{same-wire}
 use Rattle.owning.specs.Clauses.{Exact, Pairs, Blocked, Light, Served}
 use Rattle.owning.specs.Changes.{same-owned, wanted-same}
-use Rattle.owning.specs.Weaker.{Weaker, self-loan-weaker}
 use Rattle.owning.specs.PairsKept.{pairs-hold, pairs-self-loan, pairs-upgrade}
 use Rattle.owning.specs.Exact.{exact-token, exact-want, exact-self-loan, owned-weak, but-hand-back}
-use Rattle.owning.specs.Fits.{fits-unnamed, fits-weaker}
-use Rattle.owning.specs.Idle.{idle-unnamed, idle-weaker}
+use Rattle.owning.specs.Fits.{fits-unnamed}
+use Rattle.owning.specs.Idle.{idle-unnamed}
 use Rattle.owning.specs.Light.{light-other, light-request, light-ask}
 use Rattle.owning.specs.Served.{served-hold, served-upgrade, served-waits, served-ask, served-head, served-other}
 use Rattle.bounds.specs.Limits.{messages-ask, counters-ask}
-use Rattle.safe.specs.Invariant.{Clauses, Invariant}
+use Rattle.safe.specs.Invariant.{Clauses}
 use Rattle.safe.specs.Settling.{clauses-modes}
 use Rattle.safe.specs.Requesting.{recounted, clauses-asked, clauses-joined}
-use Rattle.safe.specs.Turning.{Serving}
 use Rattle.safe.specs.Done.{Done}
 use Rattle.safe.specs.Serve.{served}
 use Rattle.safe.specs.Settle.{Owing, settling}
-use Rattle.safe.specs.Begins.{old, all, low, limit, inv, at-me, facts, agreeing, alone, alone-after, nobody-names, unnamed, new, here, others, modes-now, wanting-now, clauses-hand-back, clauses-want}
+use Rattle.safe.specs.Begins.{low, at-me, facts, alone, alone-after, nobody-names, unnamed, new, here, others, modes-now, wanting-now, clauses-hand-back, clauses-want}
 
 empty-is : (queue : List Queued) → isEmpty queue ≡ true → queue ≡ []
 unfolding isEmpty

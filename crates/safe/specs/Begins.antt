@@ -1,26 +1,24 @@
 -- The room that acts holds or wants another mode: every clause at the room that does not wait.
-use mathlib.Core.Path.{_≡_, refl, sym, _∙_, ap}
+use mathlib.Core.Path.{_≡_, sym, _∙_, ap}
 use mathlib.Core.Logic.{_≢_}
 use mathlib.Core.Bool.{true, false}
 use mathlib.Core.List.{List, _++_}
 use Prim.Native.Nat.{ℕ, _≤_, _<_}
-use Rattle.base.specs.Tests.{clash}
-use Rattle.modes.specs.Codes.{none}
 use Rattle.room.specs.declared.Room.{Room}
 use Rattle.room.specs.Limits.{roomLimit}
 use Rattle.room.specs.Record.{withModes}
 use Rattle.table.specs.declared.Wire.{Wire}
-use Rattle.table.specs.Formed.{due, names}
+use Rattle.table.specs.Formed.{names}
 use Rattle.rules.specs.Work.{Work}
 use Rattle.facts.specs.Rooms.{RoomFacts}
-use Rattle.kept.specs.Changed.{changed, changed-same, changed-other}
-use Rattle.kept.specs.Moment.{Sound, empty}
+use Rattle.kept.specs.Changed.{changed, changed-same, changed-elsewhere}
+use Rattle.kept.specs.Moment.{empty}
 use Rattle.kept.specs.Acts.{now}
 use Rattle.kept.specs.Turns.{sole-token}
 use Rattle.kept.specs.Asks.{due-none}
 use Rattle.owning.specs.Clauses.{Agreeing}
 use Rattle.owning.specs.Messages.{Unnamed, unnamed-of}
-use Rattle.owning.specs.Weaker.{Weaker, hand-back-weaker, want-weaker, self-loan-weaker}
+use Rattle.owning.specs.Weaker.{Weaker, hand-back-weaker, want-weaker}
 use Rattle.owning.specs.PairsKept.{pairs-hand-back, pairs-want}
 use Rattle.owning.specs.Fits.{fits-weaker}
 use Rattle.owning.specs.Idle.{idle-weaker}
@@ -74,7 +72,7 @@ module _ (n : ℕ) (rooms : ℕ → Room) (kept : List Wire) (w : Work) (a : Don
     here = changed-same rooms (w .me) r
 
     pub others : (c : ℕ) → c ≢ w .me → new c ≡ old c
-    others c e = changed-other rooms (w .me) r c e ∙ sym (changed-other rooms (w .me) (w .room) c e)
+    others c e = changed-elsewhere rooms (w .me) r (w .room) c e
 
     pub alone-after : w .room .token ≡ true → (c : ℕ) → c < n → c ≢ w .me → new c .token ≡ false
     alone-after with c l e = ap (λ (r : Room). r .token) (others c e) ∙ alone with c l e

@@ -1,20 +1,19 @@
 -- DELIVER keeps the invariant, whatever the message is.
 use mathlib.Core.Path.{_≡_, refl, sym, _∙_, ap, subst⁻¹}
 use mathlib.Core.Logic.{_≢_}
-use mathlib.Core.Bool.{Bool, true, false, _&&_, _||_, false≢true}
+use mathlib.Core.Bool.{Bool, true, false, _||_, false≢true}
 use mathlib.Core.List.{List, [], _∷_, _++_, append-nil}
 use Prim.Native.Nat.{ℕ, _≤_, _<_}
 use native.Mathlib.Omega.{arith}
 use lib.Dec.{ltb, leb, eqb}
 use borrow.Author.Tests.{ltb-true, leb-true, eqb-true, eq-eqb, not-true}
 use Rattle.base.specs.Choice.{if_then_else_, by-test}
-use Rattle.base.specs.Tests.{and-left, and-right, or-right}
+use Rattle.base.specs.Tests.{and-left, and-right}
 use Rattle.base.specs.Sums.{one}
 use Rattle.base.specs.Lists.{Mem, remove, mem-at}
-use Rattle.modes.specs.Codes.{none, IR, R, IW, W}
+use Rattle.modes.specs.Codes.{none, IR, R, IW}
 use Rattle.modes.specs.Under.{under, small}
 use Rattle.room.specs.declared.Room.{Room}
-use Rattle.room.specs.declared.Send.{Send}
 use Rattle.room.specs.declared.Send.the-variants as out
 use Rattle.room.specs.Limits.{nobody}
 use Rattle.room.specs.Record.{withModes, withDebt, setEntry, entryOf}
@@ -29,7 +28,8 @@ use Rattle.table.specs.Formed.{due, isMode, messageFine, namesRightly, isToken,
 use Rattle.rules.specs.Work.{Work, withRoom, send, sendOut, change}
 use Rattle.rules.specs.Rules.{settle, serve, settleOrServe, receive}
 use Rattle.facts.specs.Wires.{wire, leavingSent}
-use Rattle.kept.specs.Changed.{changed, changed-same, changed-other}
+use Rattle.facts.specs.Cases.{reduced-either}
+use Rattle.kept.specs.Changed.{changed, changed-same, changed-elsewhere}
 use Rattle.kept.specs.Moment.{Right, empty}
 use Rattle.kept.specs.Acts.{At, Whole, now, only}
 use Rattle.kept.specs.Delivers.{receive-kept, arrived-kept, reduced-kept}
@@ -41,7 +41,7 @@ use Rattle.owning.specs.Light.{light-other, light-weaker, light-reduce}
 use Rattle.owning.specs.Served.{served-other}
 use Rattle.safe.specs.Invariant.{Clauses, Invariant}
 use Rattle.safe.specs.Moments.{in-hand, quiet-loose}
-use Rattle.safe.specs.Receiving.{reduced-either, clauses-grant, clauses-token, clauses-reduce}
+use Rattle.safe.specs.Receiving.{clauses-grant, clauses-token, clauses-reduce}
 use Rattle.safe.specs.Done.{Done}
 use Rattle.safe.specs.Serve.{served}
 use Rattle.safe.specs.Settle.{Owing, settling}
@@ -96,7 +96,7 @@ module _ (n : ℕ) (rooms : ℕ → Room) (messages : List Wire) (me : ℕ) (roo
     here = changed-same rooms me r
 
     others : (c : ℕ) → c ≢ me → new c ≡ old c
-    others c e = changed-other rooms me r c e ∙ sym (changed-other rooms me room c e)
+    others c e = changed-elsewhere rooms me r room c e
 
   -- the name of the room is in hand, so nothing else names it
   unnamed : (loose : ℕ) → me < n → At n rooms kept w (only me) loose → Unnamed me kept

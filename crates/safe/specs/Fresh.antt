@@ -1,8 +1,8 @@
 -- The fresh table of n rooms has the invariant: nothing is lent, nothing is under way.
 use mathlib.Core.Path.{_≡_, refl, sym, _∙_, ap}
 use mathlib.Core.Logic.{_≢_, inl}
-use mathlib.Core.Bool.{true, false}
-use mathlib.Core.List.{List, [], List·Memᴰ·not-nil}
+use mathlib.Core.Bool.{false}
+use mathlib.Core.List.{[], List·Memᴰ·not-nil}
 use Prim.Native.Nat.{ℕ, _≤_, _<_}
 use native.Mathlib.Omega.{arith}
 use lib.Dec.{ltb, eqb}
@@ -17,22 +17,19 @@ use Rattle.modes.specs.Under.{small}
 use Rattle.room.specs.declared.Room.{Room}
 use Rattle.room.specs.declared.Entry.{Entry}
 use Rattle.room.specs.Limits.{roomLimit, nobody}
-use Rattle.room.specs.Record.{noEntry, blankRoom, entryAt}
-use Rattle.room.specs.Owned.{owned, strongest, larger, hasNoEntries}
+use Rattle.room.specs.Record.{noEntry, entryAt}
+use Rattle.room.specs.Owned.{owned, hasNoEntries}
 use Rattle.table.specs.Tables.{roomAt, queueOf, messagesOf, freshTable}
 use Rattle.rules.specs.Rules.{upgradeWaits}
 use Rattle.facts.specs.Whole.{facts-of}
-use Rattle.kept.specs.After.{Lawful}
 use Rattle.kept.specs.Start.{sound}
-use Rattle.kept.specs.Fresh.{first, room-each, fresh-has}
-use Rattle.ledger.specs.Loans.{debt, Ledger}
-use Rattle.ledger.specs.Links.{Links}
+use Rattle.kept.specs.Fresh.{room-each, fresh-has}
+use Rattle.ledger.specs.Loans.{debt}
 use Rattle.ledger.specs.Debts.{debt-none}
 use Rattle.ledger.specs.Senders.{sender-none}
 use Rattle.owning.specs.Parts.{part}
-use Rattle.owning.specs.Clauses.{Exact, Agreeing, Small, Pairs, Light, Served}
+use Rattle.owning.specs.Clauses.{Agreeing}
 use Rattle.owning.specs.Owned.{owned-none}
-use Rattle.tree.specs.Tree.{Tree}
 use Rattle.bounds.specs.Limits.{messages-fresh, counters-fresh}
 use Rattle.safe.specs.Invariant.{Clauses, Invariant}
 

@@ -13,10 +13,9 @@ use Rattle.base.specs.Sums.{one, one-le}
 use Rattle.base.specs.Lists.{Mem, count, remove, mem-remove, mem-at}
 use Rattle.modes.specs.Codes.{W}
 use Rattle.modes.specs.Modes.{canLend}
-use Rattle.modes.specs.Under.{under}
 use Rattle.modes.proofs.Laws.{none-under}
 use Rattle.room.specs.declared.Room.{Room}
-use Rattle.room.specs.Limits.{roomLimit, nobody}
+use Rattle.room.specs.Limits.{nobody}
 use Rattle.room.specs.Owned.{owned}
 use Rattle.room.specs.Rules.{nextLink, isWorn, lent, lentTo}
 use Rattle.table.specs.declared.Wire.{Wire}
@@ -26,12 +25,12 @@ use Rattle.table.specs.declared.Message.the-variants as msg
 use Rattle.table.specs.Tables.{noWire}
 use Rattle.table.specs.Oldest.{between}
 use Rattle.table.specs.Formed.{due, isToken, isNamedIn, names}
-use Rattle.rules.specs.Work.{Work, withRoom, withWorn, send, join}
+use Rattle.rules.specs.Work.{Work, send, join}
 use Rattle.rules.specs.Rules.{lend, settle, serve, takeRequest}
 use Rattle.facts.specs.Moments.{MessageFacts}
 use Rattle.facts.specs.Wires.{wire}
-use Rattle.kept.specs.Changed.{changed, changed-same, changed-other}
-use Rattle.kept.specs.Moment.{Moment, waiting, empty}
+use Rattle.kept.specs.Changed.{changed, changed-same, changed-elsewhere}
+use Rattle.kept.specs.Moment.{empty}
 use Rattle.kept.specs.Acts.{At, Whole, now, only, put-joined}
 use Rattle.kept.specs.Loans.{lend-kept}
 use Rattle.kept.specs.Sends.{put-request}
@@ -172,7 +171,7 @@ module _ (n : ℕ) (rooms : ℕ → Room) (messages : List Wire) (me : ℕ) (roo
       here = changed-same rooms me after
 
       others : (c : ℕ) → c ≢ me → new c ≡ old c
-      others c e = changed-other rooms me after c e ∙ sym (changed-other rooms me room c e)
+      others c e = changed-elsewhere rooms me after room c e
 
       now-lent : new me ≡ lentTo (old me) o m
       now-lent = here ∙ sym (ap (λ (r : Room). lentTo r o m) at-me)

@@ -1,12 +1,11 @@
 -- Every clause is kept where a room lends.
-use mathlib.Core.Path.{_≡_, refl, sym, _∙_, ap}
-use mathlib.Core.Logic.{_≢_, ⊎-elim}
+use mathlib.Core.Path.{_≡_, refl, _∙_, ap}
+use mathlib.Core.Logic.{_≢_}
 use mathlib.Core.Bool.{true, false}
 use mathlib.Core.List.{List, [], _∷_, _++_}
 use Prim.Native.Nat.{ℕ, _+_, _≤_, _<_}
 use native.Mathlib.Omega.{arith}
 use lib.ListN.{length, length-set}
-use Rattle.base.specs.Sums.{same?}
 use Rattle.base.specs.Lists.{Mem}
 use Rattle.modes.specs.Modes.{canLend}
 use Rattle.modes.specs.Under.{under}
@@ -22,7 +21,6 @@ use Rattle.table.specs.declared.Message.the-variants as msg
 use Rattle.table.specs.Oldest.{between}
 use Rattle.table.specs.Formed.{isToken}
 use Rattle.facts.specs.Wires.{wire}
-use Rattle.ledger.specs.Links.{reach}
 use Rattle.ledger.specs.Frames.{alike, sender-is, receiver-is}
 use Rattle.ledger.specs.Lends.{ledger-lend}
 use Rattle.ledger.specs.Numbers.{counters-kept, links-lend}

@@ -1,12 +1,11 @@
 -- What a moment says of single messages: who names whom, and where the token is.
-use mathlib.Core.Path.{_≡_, refl, sym, _∙_, ap}
-use mathlib.Core.Logic.{_≢_}
-use mathlib.Core.Bool.{Bool, true, false, not}
+use mathlib.Core.Path.{_≡_, _∙_, ap}
+use mathlib.Core.Bool.{Bool, true, false}
 use mathlib.Core.List.{List}
-use Prim.Native.Nat.{ℕ, _+_, _≤_, _<_}
+use Prim.Native.Nat.{ℕ, _≤_, _<_}
 use native.Mathlib.Omega.{arith}
 use lib.Dec.{ltb, eqb}
-use borrow.Author.Tests.{eqb-true, eq-eqb, not-true}
+use borrow.Author.Tests.{eqb-true, not-true}
 use Rattle.base.specs.Choice.{split}
 use Rattle.base.specs.Tests.{clash, and-left, and-right}
 use Rattle.base.specs.Sums.{one, one-le, sum-at}
@@ -15,8 +14,8 @@ use Rattle.room.specs.declared.Room.{Room}
 use Rattle.table.specs.declared.Wire.{Wire}
 use Rattle.table.specs.declared.Queued.{Queued}
 use Rattle.table.specs.declared.Message.the-variants as msg
-use Rattle.table.specs.Formed.{due, tokens, isToken, isNamedIn, names, namesRightly}
-use Rattle.kept.specs.Moment.{Moment, NoOwnRequest}
+use Rattle.table.specs.Formed.{due, tokens, isToken, names, namesRightly}
+use Rattle.kept.specs.Moment.{Moment}
 
 module _ (n : ℕ) (rooms : ℕ → Room) (queue : List Queued) (messages : List Wire) (hand : ℕ → ℕ) (loose : ℕ)
     (s : Moment n rooms queue messages hand loose) where

@@ -1,7 +1,7 @@
 -- Every clause is kept where a GRANT, the TOKEN or a REDUCE arrives.
-use mathlib.Core.Path.{_≡_, refl, sym, _∙_, ap}
+use mathlib.Core.Path.{_≡_, refl, _∙_, ap}
 use mathlib.Core.Logic.{_≢_, ⊎-elim}
-use mathlib.Core.Bool.{Bool, true, false, _&&_, _||_}
+use mathlib.Core.Bool.{true, false, _||_}
 use mathlib.Core.List.{List, [], _∷_, _++_, append-nil}
 use Prim.Native.Nat.{ℕ, _≤_, _<_}
 use native.Mathlib.Omega.{arith}
@@ -10,11 +10,10 @@ use lib.ListN.{length, length-set}
 use Rattle.base.specs.Choice.{by-test}
 use Rattle.base.specs.Lists.{Mem, remove, mem-at}
 use Rattle.modes.specs.Codes.{IR}
-use Rattle.modes.specs.Modes.{isStronger}
 use Rattle.modes.specs.Under.{small}
 use Rattle.room.specs.declared.Room.{Room}
 use Rattle.room.specs.Limits.{roomLimit, nobody}
-use Rattle.room.specs.Record.{entryOf, entryAt, withModes, withDebt, setEntry}
+use Rattle.room.specs.Record.{entryOf, withModes, withDebt, setEntry}
 use Rattle.room.specs.Rules.{tokenedBy, reduced}
 use Rattle.table.specs.declared.Wire.{Wire}
 use Rattle.table.specs.declared.Queued.{Queued}
@@ -24,6 +23,7 @@ use Rattle.table.specs.Tables.{noWire}
 use Rattle.table.specs.Formed.{isToken}
 use Rattle.facts.specs.Rooms.{RoomFacts}
 use Rattle.facts.specs.Wires.{wire, leavingSent}
+use Rattle.facts.specs.Cases.{reduced-either}
 use Rattle.ledger.specs.Links.{Sender}
 use Rattle.ledger.specs.Frames.{alike}
 use Rattle.ledger.specs.Takes.{Oldest, ledger-reduce}
@@ -56,12 +56,6 @@ quiet-leaving : (messages : List Wire) (me : ℕ) (r : Room) (a : ℕ) → ((w :
     → (w : Wire) → Mem w (messages ++ leavingSent me r a) → isToken (w .message) ≡ false
 unfolding isToken
 quiet-leaving messages me r a none w i = ⊎-elim (none w) (λ e. ap (λ (w : Wire). isToken (w .message)) e) (leaving-among messages me r a w i)
-
--- what holds whether a REDUCE lowers the entry or is dropped
-pub reduced-either : (r : Room) (a l m : ℕ) (P : Room → Type 0) → P (setEntry r a (entryOf m l)) → P r → P (reduced r a l m)
-unfolding reduced
-reduced-either r a l m P p q =
-    by-test P (eqb (entryAt r a .link) l && isStronger (entryAt r a .mode) m) (setEntry r a (entryOf m l)) r (λ b. p) (λ b. q)
 
 module _ (n : ℕ) (old new : ℕ → Room) (queue : List Queued) (messages : List Wire) (me : ℕ) (low : me < n) (limit : n ≤ roomLimit)
     (others : (c : ℕ) → c ≢ me → new c ≡ old c) (facts : RoomFacts n me (old me)) (senders : (w : Wire) → Mem w messages → w .«from» < n)

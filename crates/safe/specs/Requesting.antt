@@ -1,5 +1,5 @@
 -- Every clause is kept where a REQUEST is sent or taken off its wire, and where a room joins the queue or is taken off it.
-use mathlib.Core.Path.{_≡_, refl, ap}
+use mathlib.Core.Path.{_≡_, refl}
 use mathlib.Core.Bool.{Bool, true}
 use mathlib.Core.List.{List, [], _∷_, _++_}
 use Prim.Native.Nat.{ℕ, _+_}

@@ -20,9 +20,9 @@ use Rattle.table.specs.declared.Queued.{Queued}
 use Rattle.table.specs.Formed.{due}
 use Rattle.rules.specs.Work.{Work, withQueue, send}
 use Rattle.rules.specs.Rules.{hold, lend, pass, upgradeWaits, upgraded, serveQueue, serve}
-use Rattle.kept.specs.Changed.{changed, changed-same, changed-other}
+use Rattle.kept.specs.Changed.{changed, changed-same, changed-other, changed-elsewhere}
 use Rattle.kept.specs.Moment.{empty}
-use Rattle.kept.specs.Acts.{Whole, now}
+use Rattle.kept.specs.Acts.{now}
 use Rattle.kept.specs.Turns.{sole-token}
 use Rattle.kept.specs.Serve.{upgraded-kept, upgraded-token}
 use Rattle.owning.specs.Messages.{Unnamed, unnamed-of}
@@ -118,7 +118,7 @@ module _ (n : ℕ) (rooms : ℕ → Room) (kept : List Wire) where
         here = changed-same rooms me held
 
         others : (c : ℕ) → c ≢ me → new c ≡ old c
-        others c e = changed-other rooms me held c e ∙ sym (changed-other rooms me (w .room) c e)
+        others c e = changed-elsewhere rooms me held (w .room) c e
 
         modes : new me ≡ withModes (old me) W 0
         modes = here ∙ sym (ap (λ (r : Room). withModes r W 0) own)

@@ -3,16 +3,12 @@ use mathlib.Core.Path.{_≡_, refl, sym, _∙_, ap}
 use mathlib.Core.Logic.{_≢_}
 use mathlib.Core.Bool.{true, false}
 use mathlib.Core.List.{List, [], _∷_, _++_, append-assoc}
-use Prim.Native.Nat.{ℕ, _≤_, _<_}
-use lib.Dec.{eqb}
+use Prim.Native.Nat.{ℕ}
 use Rattle.base.specs.Choice.{by-test}
-use Rattle.modes.specs.Codes.{IR}
 use Rattle.modes.specs.Modes.{isStronger}
 use Rattle.room.specs.declared.Room.{Room}
 use Rattle.room.specs.declared.Changed.{Changed}
 use Rattle.room.specs.declared.Send.the-variants as out
-use Rattle.room.specs.Limits.{nobody}
-use Rattle.room.specs.Record.{withDebt}
 use Rattle.room.specs.Owned.{owned}
 use Rattle.room.specs.Rules.{credited, settled}
 use Rattle.table.specs.declared.Wire.{Wire}
@@ -20,7 +16,8 @@ use Rattle.table.specs.declared.Message.the-variants as msg
 use Rattle.rules.specs.Work.{Work, withRoom, send, sendOut, change}
 use Rattle.rules.specs.Rules.{settle}
 use Rattle.facts.specs.Wires.{wire}
-use Rattle.kept.specs.Changed.{changed, changed-same, changed-other}
+use Rattle.facts.specs.Cases.{credited-either}
+use Rattle.kept.specs.Changed.{changed, changed-same, changed-elsewhere}
 use Rattle.kept.specs.Acts.{Whole, now}
 use Rattle.kept.specs.Settle.{settle-kept}
 use Rattle.owning.specs.Clauses.{Light, Served}
@@ -40,11 +37,6 @@ pub record Owing (n : ℕ) (rooms : ℕ → Room) (kept : List Wire) (w : Work) 
   pub light : Light n (now rooms w) (w .queue)
   pub served : Served n (now rooms w) (w .queue)
   pub unworn : w .worn ≡ false
-
--- what holds of both outcomes of settling
-credited-either : (r : Room) (m : ℕ) (P : Room → Type 0) → P (withDebt r nobody m 0) → P (withDebt r (r .lender) m (r .link)) → P (credited r m)
-unfolding credited
-credited-either r m P p q = by-test P (eqb m 0) (withDebt r nobody m 0) (withDebt r (r .lender) m (r .link)) (λ b. p) (λ b. q)
 
 module _ (n : ℕ) (rooms : ℕ → Room) (kept : List Wire) (w : Work) (a : Owing n rooms kept w) (without : w .room .token ≡ false) where
   abbrev me : ℕ
@@ -69,7 +61,7 @@ module _ (n : ℕ) (rooms : ℕ → Room) (kept : List Wire) (w : Work) (a : Owi
   here = changed-same rooms me paid
 
   others : (c : ℕ) → c ≢ me → new c ≡ old c
-  others c e = changed-other rooms me paid c e ∙ sym (changed-other rooms me (w .room) c e)
+  others c e = changed-elsewhere rooms me paid (w .room) c e
 
   now-paid : new me ≡ credited (old me) (owned (old me))
   now-paid = here ∙ sym (ap (λ (r : Room). credited r (owned r)) at-me)

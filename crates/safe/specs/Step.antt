@@ -1,17 +1,16 @@
 -- Every step keeps the invariant, and no step from a table that has it is refused by 10 or 11 once it is begun.
-use mathlib.Core.Path.{_≡_, refl, sym, _∙_, ap, subst, subst⁻¹}
+use mathlib.Core.Path.{_≡_, refl, subst, subst⁻¹}
 use mathlib.Core.Logic.{_≢_}
-use mathlib.Core.Bool.{true, false}
+use mathlib.Core.Bool.{false}
 use mathlib.Core.List.{List, [], _∷_, _++_, append-nil}
 use Prim.Native.Nat.{ℕ, _≤_, _<_}
 use native.Mathlib.Omega.{arith}
-use lib.Dec.{ltb, eqb}
+use lib.Dec.{eqb}
 use lib.ListN.{length}
 use lib.Seq.{length-take-le}
-use borrow.Author.Tests.{le-ltb, eq-eqb, ne-eqb, eqb-true, eqb-false}
+use borrow.Author.Tests.{le-ltb, ne-eqb, eqb-true, eqb-false}
 use Rattle.base.specs.Choice.{by-test, split}
 use Rattle.base.specs.Lists.{remove}
-use Rattle.room.specs.declared.Room.{Room}
 use Rattle.table.specs.declared.Table.{Table}
 use Rattle.table.specs.declared.Wire.{Wire}
 use Rattle.table.specs.declared.Answer.{Answer}
@@ -23,7 +22,7 @@ use Rattle.table.specs.Numbers.{DONE}
 use Rattle.table.specs.Tables.{roomAt, queueOf, messagesOf, answer}
 use Rattle.table.specs.Oldest.{oldestOf}
 use Rattle.rules.specs.declared.Event.{Event}
-use Rattle.rules.specs.Events.{isAsk, isUpgrade, isHandBack, isDeliver}
+use Rattle.rules.specs.Events.{isAsk, isUpgrade, isHandBack}
 use Rattle.rules.specs.Refusals.{refusal}
 use Rattle.rules.specs.Work.{Work, workAt}
 use Rattle.rules.specs.Rules.{ask, upgrade, handBack, receive}
@@ -36,7 +35,6 @@ use Rattle.kept.specs.Moment.{NoOwnRequest}
 use Rattle.kept.specs.Acts.{now}
 use Rattle.kept.specs.After.{Lawful, rooms-are, queue-is, messages-are, after-lawful}
 use Rattle.kept.specs.Start.{same-rooms, start, take-oldest}
-use Rattle.ledger.specs.Takes.{Oldest}
 use Rattle.bounds.specs.Limits.{messages-fit}
 use Rattle.safe.specs.Invariant.{Invariant}
 use Rattle.safe.specs.Done.{Done}

@@ -1,34 +1,33 @@
 -- One turn of serve keeps every clause: the room serves itself, lends, or passes the token.
 use mathlib.Core.Path.{_≡_, refl, sym, _∙_, ap}
 use mathlib.Core.Logic.{_≢_}
-use mathlib.Core.Bool.{Bool, true, false, _||_}
+use mathlib.Core.Bool.{true, false}
 use mathlib.Core.List.{List, [], _∷_, _++_, append-assoc, List·Memᴰ·head}
 use Prim.Native.Nat.{ℕ, _≤_, _<_}
 use native.Mathlib.Omega.{arith}
 use lib.Dec.{eqb}
-use borrow.Author.Tests.{eq-eqb, eqb-true, eqb-false}
-use Rattle.base.specs.Choice.{by-test, split}
+use borrow.Author.Tests.{eq-eqb, eqb-true}
+use Rattle.base.specs.Choice.{split}
 use Rattle.base.specs.Sums.{one}
 use Rattle.base.specs.Lists.{Mem}
-use Rattle.modes.specs.Codes.{IR}
 use Rattle.modes.specs.Modes.{agrees, canLend}
 use Rattle.modes.specs.Under.{under}
 use Rattle.modes.proofs.Laws.{agrees-sym}
 use Rattle.room.specs.declared.Room.{Room}
-use Rattle.room.specs.Limits.{roomLimit, nobody}
-use Rattle.room.specs.Record.{withModes, withDebt}
+use Rattle.room.specs.Limits.{roomLimit}
+use Rattle.room.specs.Record.{withModes}
 use Rattle.room.specs.Owned.{owned}
 use Rattle.room.specs.Rules.{nextLink, isWorn, lent, lentTo, left, passed, passedTo, remaining}
 use Rattle.table.specs.declared.Wire.{Wire}
 use Rattle.table.specs.declared.Queued.{Queued}
 use Rattle.table.specs.declared.Message.the-variants as msg
-use Rattle.table.specs.Formed.{due, tokens, isToken, names}
-use Rattle.rules.specs.Work.{Work, withRoom, withQueue, withWorn, send}
+use Rattle.table.specs.Formed.{due, tokens, isToken}
+use Rattle.rules.specs.Work.{Work, withQueue, send}
 use Rattle.rules.specs.Rules.{hold, lend, pass}
-use Rattle.facts.specs.Rooms.{RoomFacts}
 use Rattle.facts.specs.Moments.{QueuedFacts}
 use Rattle.facts.specs.Wires.{wire}
-use Rattle.kept.specs.Changed.{changed, changed-same, changed-other}
+use Rattle.facts.specs.Cases.{passed-either}
+use Rattle.kept.specs.Changed.{changed, changed-same, changed-elsewhere}
 use Rattle.kept.specs.Moment.{Moment, Sound, empty}
 use Rattle.kept.specs.Hand.{nameOf, take-queued}
 use Rattle.kept.specs.Acts.{Whole, now}
@@ -62,10 +61,8 @@ due-wants r m e h = split (eqb (r .held) 0) (λ b. (rw b at e, eqb-true _ _ b)) 
 
 -- a pass leaves what is wanted
 passed-wants : (r : Room) (y : ℕ) → passedTo r y .wanted ≡ r .wanted
-unfolding passedTo left
-passed-wants r y =
-    by-test (λ (s : Room). s .wanted ≡ r .wanted) (eqb (remaining r y) 0) (left r y) (withDebt (left r y) y (remaining r y) (nextLink (r .counter)))
-    (λ e. refl) (λ e. refl)
+unfolding left
+passed-wants r y = passed-either r y (λ (s : Room). s .wanted ≡ r .wanted) refl refl
 
 -- Inside serve: the room that acts has the token, and no clause but SERVED is open. The queue is what is still to be served.
 pub record Serving (n : ℕ) (rooms : ℕ → Room) (kept : List Wire) (w : Work) (queue : List Queued) : Type 0 where
@@ -123,7 +120,7 @@ module _ (n : ℕ) (rooms : ℕ → Room) (kept : List Wire) (w : Work) (q : Que
   -- with another record of the room that acts
   module _ (r : Room) where
     pub others : (c : ℕ) → c ≢ me → changed rooms me r c ≡ old c
-    others c e = changed-other rooms me r c e ∙ sym (changed-other rooms me (w .room) c e)
+    others c e = changed-elsewhere rooms me r (w .room) c e
 
     pub here : changed rooms me r me ≡ r
     here = changed-same rooms me r

@@ -1,16 +1,14 @@
 -- A law for each branch of a turn.
-use mathlib.Core.Path.{_≡_, refl, sym, _∙_, ap}
+use mathlib.Core.Path.{_≡_, sym, _∙_, ap}
 use mathlib.Core.List.{List}
 use Prim.Native.Nat.{ℕ, _≤_, _<_}
 use lib.ListN.{length}
 use borrow.Author.Tests.{lt-ltb, le-ltb, eq-eqb, ne-eqb}
 use Rattle.table.specs.declared.Table.{Table}
 use Rattle.table.specs.declared.Answer.{Answer}
-use Rattle.table.specs.Numbers.{TABLE, EVENT}
 use Rattle.table.specs.Tables.{answer, freshOf}
 use Rattle.rules.specs.declared.Event.{Event}
 use Rattle.rules.specs.Step.{stepOf}
-use Rattle.session.specs.declared.Turned.{Turned}
 use Rattle.reading.specs.declared.Command.{Command}
 use Rattle.reading.specs.declared.Command.the-variants as command
 use Rattle.reading.specs.Lines.{commandOf}

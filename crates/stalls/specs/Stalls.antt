@@ -10,7 +10,6 @@ use borrow.Author.Tests.{leb-false, eqb-true}
 use Rattle.base.specs.Choice.{split}
 use Rattle.base.specs.Tests.{and-left, and-right, or-use}
 use Rattle.base.specs.Below.{allBelow, all-at}
-use Rattle.base.specs.Sums.{one}
 use Rattle.base.specs.Lists.{remove}
 use Rattle.base.specs.Arrays.{padded}
 use Rattle.modes.specs.Codes.{W}

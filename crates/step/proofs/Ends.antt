@@ -3,7 +3,7 @@ use mathlib.Core.Path.{_≡_, sym, _∙_, ap}
 use mathlib.Core.Logic.{_≢_, _⊎_, inl, inr}
 use mathlib.Core.Bool.{false}
 use mathlib.Core.List.{List}
-use Prim.Native.Nat.{ℕ, _+_, _-_, _≤_, _<_}
+use Prim.Native.Nat.{ℕ, _-_, _≤_, _<_}
 use native.Mathlib.Omega.{arith}
 use lib.ListN.{length}
 use mir.Val.{Val}
@@ -17,7 +17,6 @@ use Rattle.table.proofs.Table as tables
 use Rattle.table.proofs.Known.{wires-long}
 use Rattle.rules.specs.declared.Event.{Event}
 use Rattle.rules.specs.Step.{stepOf}
-use Rattle.act.specs.Desk.{outLimit}
 use Rattle.plan.specs.declared.Plan.{Plan}
 use Rattle.plan.specs.Plans.{planOf}
 use Rattle.plan.proofs.Plan as plans

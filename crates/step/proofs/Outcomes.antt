@@ -1,6 +1,5 @@
 -- WORN, FULL or done: what is given back for a plan is what the rules give.
 use mathlib.Core.Path.{_≡_, sym, _∙_, ap}
-use mathlib.Core.Logic.{_≢_, _⊎_, inl, inr}
 use mathlib.Core.Bool.{true, false}
 use mathlib.Core.List.{_++_, append-nil}
 use Prim.Native.Nat.{ℕ, _+_, _-_, _≤_, _<_}
@@ -9,21 +8,17 @@ use native.Mathlib.Omega.{arith}
 use lib.ListN.{length, take, drop, drop-of-length-le}
 use lib.Seq.{length-take-le, take-all}
 use borrow.Author.Tests.{lt-ltb, le-ltb, ne-eqb}
-use Rattle.base.specs.Choice.{split}
-use Rattle.base.specs.Sums.{same?, below?}
 use Rattle.base.specs.Lists.{remove, remove-split}
 use Rattle.table.specs.declared.Table.{Table}
 use Rattle.table.specs.declared.Answer.{Answer}
 use Rattle.table.specs.Limits.{wireLimit}
 use Rattle.table.specs.Tables.{messagesOf, answer}
 use Rattle.rules.specs.Work.{Work}
-use Rattle.rules.specs.declared.Event.{Event}
-use Rattle.rules.specs.Step.{after, outcome, stepOf}
-use Rattle.act.specs.Desk.{outLimit}
+use Rattle.rules.specs.Step.{after, outcome}
 use Rattle.act.specs.declared.Done.{Done}
 use Rattle.act.specs.Done.{doneOf}
 use Rattle.plan.specs.declared.Plan.{Plan}
-use Rattle.step.specs.Writes.{without, Takes, Writes, endingOf}
+use Rattle.step.specs.Writes.{without, Takes, endingOf}
 use Rattle.step.proofs.Splice.{length-spliced}
 
 -- the messages without none of them, and without one

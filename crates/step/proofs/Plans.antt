@@ -2,25 +2,21 @@
 use mathlib.Core.Path.{_≡_, refl, sym, _∙_, ap}
 use mathlib.Core.Bool.{true, false}
 use mathlib.Core.List.{List}
-use Prim.Native.Nat.{ℕ, _≤_, _<_}
+use Prim.Native.Nat.{ℕ, _≤_}
 use native.Mathlib.Omega.{arith}
 use lib.Dec.{eqb}
 use lib.ListN.{length}
 use lib.Seq.{length-take-le}
-use borrow.Author.Tests.{eqb-true, eqb-false, eq-eqb}
+use borrow.Author.Tests.{eqb-true, eqb-false}
 use Rattle.base.specs.Choice.{split}
-use Rattle.base.specs.Lists.{remove}
 use Rattle.base.specs.Arrays.{padded-fits}
-use Rattle.room.specs.Limits.{roomLimit}
 use Rattle.table.specs.declared.Table.{Table}
 use Rattle.table.specs.declared.Wire.{Wire}
-use Rattle.table.specs.declared.Message.{Message}
 use Rattle.table.specs.declared.Found.{Found}
 use Rattle.table.specs.declared.Found.the-variants as found
-use Rattle.table.specs.Limits.{queueLimit, wireLimit}
+use Rattle.table.specs.Limits.{queueLimit}
 use Rattle.table.specs.Tables.{noWire, messagesOf, answer}
 use Rattle.table.specs.Oldest.{oldestOf}
-use Rattle.table.specs.Formed.{wellFormed}
 use Rattle.facts.specs.Shapes.{Shaped}
 use Rattle.facts.specs.Whole.{WellFormed, facts-of}
 use Rattle.facts.specs.Search.{oldest-low}

@@ -1,15 +1,12 @@
 -- No children: a room that is not the root and owns nothing is lender of none but the root, and no GRANT of its is under way.
 use mathlib.Core.Path.{_≡_, refl, sym, _∙_, ap}
 use mathlib.Core.Logic.{_⊎_, inl, inr, _≢_, ⊎-elim}
-use mathlib.Core.Bool.{true, _||_}
+use mathlib.Core.Bool.{true}
 use mathlib.Core.List.{List}
 use Prim.Native.Nat.{ℕ, _≤_, _<_}
 use native.Mathlib.Omega.{arith}
-use lib.Dec.{eqb}
-use borrow.Author.Tests.{eq-eqb, eqb-true}
-use Rattle.base.specs.Tests.{or-use}
+use borrow.Author.Tests.{eq-eqb}
 use Rattle.base.specs.Lists.{Mem, count}
-use Rattle.modes.specs.Codes.{IR, R, IW}
 use Rattle.modes.specs.Under.{under}
 use Rattle.room.specs.declared.Room.{Room}
 use Rattle.room.specs.declared.Entry.{Entry}
@@ -21,6 +18,7 @@ use Rattle.table.specs.declared.Message.the-variants as msg
 use Rattle.table.specs.Formed.{messageFine, isNamedIn}
 use Rattle.facts.specs.Rooms.{RoomFacts}
 use Rattle.facts.specs.Moments.{MessageFacts}
+use Rattle.kept.specs.Delivers.{grant-modes}
 use Rattle.ledger.specs.Loans.{debt, owed, flushed, Ledger}
 use Rattle.owning.specs.Clauses.{Small}
 use Rattle.owning.specs.Owned.{entry-owned}
@@ -31,11 +29,7 @@ use Rattle.tree.specs.Folds.{GrantOn, TokenOn, token-told, owed-by, owed
 -- a GRANT is of some mode
 grant-some : (n m l : ℕ) → messageFine n (msg.Grant m l) ≡ true → 1 ≤ m
 unfolding messageFine
-grant-some n m l h =
-    ⊎-elim
-    (λ k. ⊎-elim (λ e. omega (arith, eqb-true m IR e)) (λ e. omega (arith, eqb-true m R e)) (or-use (eqb m IR) (eqb m R) k))
-    (λ e. omega (arith, eqb-true m IW e))
-    (or-use (eqb m IR || eqb m R) (eqb m IW) h)
+grant-some n m l h = grant-modes m h .0
 
 module _ (n : ℕ) (rooms : ℕ → Room) (messages : List Wire) (limit : n ≤ roomLimit) (facts : (c : ℕ) → c < n → RoomFacts n c (rooms c))
     (right : (w : Wire) → Mem w messages → MessageFacts n rooms w) (ledger : Ledger n rooms messages) (small : Small n rooms messages)

@@ -8,38 +8,13 @@ use native.Mathlib.Omega.{arith}
 use lib.Dec.{eqb}
 use borrow.Author.Tests.{eq-eqb, ne-eqb}
 use Rattle.base.specs.Choice.{if_then_else_}
-use Rattle.base.specs.Sums.{same?}
 use Rattle.base.specs.Lists.{Mem}
+use Rattle.base.specs.Ranks.{rerooted, rerooted-root, rerooted-falls}
 use Rattle.room.specs.declared.Room.{Room}
 use Rattle.room.specs.Limits.{nobody}
 use Rattle.table.specs.declared.Wire.{Wire}
 use Rattle.tree.specs.Tree.{NoTokenTo, isGrant, Tree}
 use Rattle.tree.specs.Frames.{GrantsIn}
-
--- r gets 0, everyone else one more
-unfoldable pub rerooted : (ℕ → ℕ) → ℕ → ℕ → ℕ
-rerooted rank r c = if eqb c r then 0 else suc (rank c)
-
-module _ (rank : ℕ → ℕ) (r : ℕ) where
-  rerooted-at : rerooted rank r r ≡ 0
-  unfolding rerooted
-  rerooted-at = simp (eq-eqb r r refl)
-
-  rerooted-other : (c : ℕ) → c ≢ r → rerooted rank r c ≡ suc (rank c)
-  unfolding rerooted
-  rerooted-other c ne = simp (ne-eqb c r ne)
-
-  -- the root is below all others
-  pub rerooted-root : (c : ℕ) → c ≢ r → rerooted rank r r < rerooted rank r c
-  rerooted-root c ne = omega (arith, rerooted-at, rerooted-other c ne)
-
-  -- who was above another is so still, but for the root
-  pub rerooted-falls : (b c : ℕ) → c ≢ r → rank b < rank c → rerooted rank r b < rerooted rank r c
-  rerooted-falls b c ne h = go (same? b r)
-    where
-      go : (b ≡ r) ⊎ (b ≢ r) → rerooted rank r b < rerooted rank r c
-      go (inl e) = rw e (rerooted-root c ne)
-      go (inr e) = omega (arith, rerooted-other b e, rerooted-other c ne)
 
 -- y gets one more than b
 attached : (ℕ → ℕ) → ℕ → ℕ → ℕ → ℕ
@@ -85,22 +60,22 @@ module _ (n : ℕ) (old new : ℕ → Room) (messages after : List Wire) (t : Tr
       → Tree n new after
   tree-rerooted r lenders grants =
       record {
-        rank = rerooted (t .rank) r;
+        rank = rerooted r (t .rank);
         lender = λ c low some untold. by-lender c low some (lenders c low some untold .0) (lenders c low some untold .1);
         grant = λ w member is. by-grant w is (grants w member is .0) (grants w member is .1);
       }
     where
       by-lender : (c : ℕ) → c < n → new c .lender ≢ nobody → c ≢ r
           → (new c .lender ≡ r) ⊎ ((new c .lender ≡ old c .lender) × NoTokenTo c messages)
-          → rerooted (t .rank) r (new c .lender) < rerooted (t .rank) r c
-      by-lender c low some ne (inl e) = rw e (rerooted-root (t .rank) r c ne)
+          → rerooted r (t .rank) (new c .lender) < rerooted r (t .rank) c
+      by-lender c low some ne (inl e) = rw e (rerooted-root r (t .rank) c ne)
       by-lender c low some ne (inr (e, untold)) =
-          rw e (rerooted-falls (t .rank) r (old c .lender) c ne (t .lender c low (λ k. some (e ∙ k)) untold))
+          rw e (rerooted-falls r (t .rank) (old c .lender) c ne (t .lender c low (λ k. some (e ∙ k)) untold))
 
       by-grant : (w : Wire) → isGrant (w .message) ≡ true → w .to ≢ r → (w .«from» ≡ r) ⊎ Mem w messages
-          → rerooted (t .rank) r (w .«from») < rerooted (t .rank) r (w .to)
-      by-grant w is ne (inl e) = omega (arith, ap (rerooted (t .rank) r) e, rerooted-root (t .rank) r (w .to) ne)
-      by-grant w is ne (inr member) = rerooted-falls (t .rank) r (w .«from») (w .to) ne (t .grant w member is)
+          → rerooted r (t .rank) (w .«from») < rerooted r (t .rank) (w .to)
+      by-grant w is ne (inl e) = omega (arith, ap (rerooted r (t .rank)) e, rerooted-root r (t .rank) (w .to) ne)
+      by-grant w is ne (inr member) = rerooted-falls r (t .rank) (w .«from») (w .to) ne (t .grant w member is)
 
   -- y above b: y has no lender, lends nothing, and gets no GRANT but of b
   pub tree-attached : (y b : ℕ) → b ≢ y

@@ -19,7 +19,6 @@ use Rattle.room.specs.Record.{noRoom}
 use Rattle.table.specs.declared.Table.{Table}
 use Rattle.table.proofs.Table as tables
 use Rattle.table.proofs.Known.{rooms-long}
-use Rattle.writing.specs.declared.View.{View}
 use Rattle.writing.specs.Answers.{used, tokenRoom}
 use Rattle.writing.specs.Words.{viewOf, tokenAfter}
 

@@ -1,15 +1,14 @@
 -- The answer line, from its words.
 use mathlib.Core.Path.{_≡_, refl, sym, _∙_, ap}
-use mathlib.Core.Bool.{Bool, true, false}
-use mathlib.Core.List.{List, [], _∷_, _++_, map, map-map, append-nil, append-assoc}
-use Prim.Native.Nat.{ℕ, suc, _+_, _*_, _≤_, _<_, min}
+use mathlib.Core.List.{List, [], _∷_, _++_, map, map-map, append-assoc}
+use Prim.Native.Nat.{ℕ, suc, _+_, _≤_, _<_, min}
 use native.Mathlib.Omega.{arith}
 use lib.Dec.{ltb, eqb}
 use lib.ListN.{length, set, take, drop, length-set, length-append, length-take, length-map}
 use mir.Val.{Val}
 use denote.Laws.{Is}
 use borrow.Author.Tests.{lt-ltb, le-ltb, eq-eqb, ne-eqb, eqb-true, eqb-false}
-use Rattle.base.specs.Choice.{if_then_else_, split}
+use Rattle.base.specs.Choice.{split}
 use Rattle.base.specs.Arrays.{padded, padded-take}
 use Rattle.room.specs.declared.Room.{Room}
 use Rattle.room.specs.Limits.{roomLimit}
@@ -18,9 +17,9 @@ use Rattle.table.proofs.Table as tables
 use Rattle.table.proofs.Known.{rooms-long}
 use Rattle.writing.specs.declared.words.Word.{Word}
 use Rattle.writing.specs.declared.View.{View}
-use Rattle.writing.specs.Answers.{decimal, modeText, tokenText, tokenRoom, used, spaced, shown, lineOf}
+use Rattle.writing.specs.Answers.{decimal, modeText, tokenText, used, spaced, shown, lineOf}
 use Rattle.writing.specs.Words.{spelled, laid, viewOf, texts}
-use Rattle.writing.specs.Written.{over, writtenOf, lengthOf}
+use Rattle.writing.specs.Written.{writtenOf, lengthOf}
 use Rattle.writing.proofs.Laying.{laid-sets, laid-more, laid-none, laid-length}
 use Rattle.writing.proofs.Laws.{word-short, modes-short}
 

@@ -6,7 +6,6 @@ use lib.ListN.{length, take, drop}
 use lib.Dec.{eqb}
 use Rattle.base.specs.Choice.{if_then_else_}
 use Rattle.base.specs.Arrays.{padded}
-use Rattle.room.specs.declared.Room.{Room}
 use Rattle.room.specs.Limits.{roomLimit}
 use Rattle.table.specs.declared.Table.{Table}
 use Rattle.writing.specs.declared.words.Word.{Word}

@@ -1,5 +1,4 @@
 use native.Mathlib.Omega.{arith}
-use mathlib.Core.Path.{_∙_, sym}
 use Rattle.plan.proofs.Numbers.{refused-is, deliver-to, deliver-empty, deliver-is}
 use borrow.Author.Needs.{needs}
 use Rattle.plan.proofs.deliver.Statement.{statement}

@@ -1,13 +1,12 @@
 -- A law for each branch of spelling a word, and of laying one down.
-use mathlib.Core.Path.{_≡_, refl, sym, _∙_, ap}
+use mathlib.Core.Path.{_≡_, refl, sym, _∙_}
 use mathlib.Core.List.{List, [], _∷_}
 use Prim.Native.Nat.{ℕ, suc, _+_, _/_, _%_, _≤_, _<_}
 use native.Mathlib.Omega.{arith}
 use native.Mathlib.Numerals.{add-one}
-use lib.ListN.{length, set, take}
+use lib.ListN.{length, set}
 use lib.Seq.{take-all}
 use borrow.Author.Tests.{lt-ltb, le-ltb, ne-eqb}
-use Rattle.modes.specs.Codes.{none, IR, R, U, IW, W}
 use Rattle.writing.specs.declared.words.Word.{Word}
 use Rattle.writing.specs.Answers.{digitText, decimal, modeText, tokenText}
 use Rattle.writing.specs.Words.{spelled, laid}

@@ -1,5 +1,5 @@
 use Rattle.act.proofs.Known.{queue-long}
-use Rattle.act.proofs.Turns.{turn-empty, turn-stop, head-room, turn-carried}
+use Rattle.act.proofs.Turns.{turn-empty, turn-stop, turn-carried}
 use borrow.Author.Needs.{needs}
 use Rattle.act.proofs.desk.turn.Statement.{statement}
 use Rattle.act.proofs.desk.turn.Tie as tie

@@ -1,20 +1,20 @@
--- The rules for a room's record that go by a test: what holds of both outcomes holds.
+-- The rules for a room's record that go by a test: what holds of both outcomes holds of what comes out.
 use mathlib.Core.Logic.{_≢_}
 use mathlib.Core.Bool.{_||_, _&&_}
 use mathlib.Core.List.{List, [], _∷_}
-use Prim.Native.Nat.{ℕ}
-use lib.Dec.{eqb}
-use borrow.Author.Tests.{eq-eqb}
+use Prim.Native.Nat.{ℕ, _≤_, _<_}
+use lib.Dec.{ltb, eqb}
+use borrow.Author.Tests.{ltb-true, ltb-false, eq-eqb}
 use Rattle.base.specs.Choice.{by-test}
 use Rattle.base.specs.Tests.{or-left, clash}
 use Rattle.modes.specs.Modes.{isStronger}
 use Rattle.room.specs.declared.Room.{Room}
 use Rattle.room.specs.Limits.{nobody}
 use Rattle.room.specs.Record.{entryOf, entryAt, withDebt, setEntry}
-use Rattle.room.specs.Rules.{nextLink, left, remaining, passedTo, credited, reduced}
+use Rattle.room.specs.Rules.{nextLink, left, remaining, passedTo, credited, lifted, reduced}
 use Rattle.table.specs.declared.Wire.{Wire}
 use Rattle.table.specs.declared.Message.the-variants as msg
 use Rattle.facts.specs.Wires.{wire, leavingSent}
 
 -- to the old lender: nothing, or a REDUCE from a room that has one
 pub leaving-either : (me : ℕ) (r : Room) (a : ℕ) (P : List Wire → Type 0) → P []
@@ -42,3 +42,8 @@ pub reduced-either : (r : Room) (a l m : ℕ) (P : Room → Type 0) → P (setEn
 unfolding reduced
 reduced-either r a l m P p q =
     by-test P (eqb (entryAt r a .link) l && isStronger (entryAt r a .mode) m) (setEntry r a (entryOf m l)) r (λ e. p) (λ e. q)
+
+-- a counter that a TOKEN lifts: the larger of the two numbers
+pub lifted-either : (k l : ℕ) (P : ℕ → Type 0) → (k < l → P l) → (l ≤ k → P k) → P (lifted k l)
+unfolding lifted
+lifted-either k l P p q = by-test P (ltb k l) l k (λ e. p (ltb-true k l e)) (λ e. q (ltb-false k l e))
