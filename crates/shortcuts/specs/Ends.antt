@@ -18,15 +18,15 @@ use Rattle.rules.specs.Work.{send, join, sendOut}
 use Rattle.rules.specs.Rules.{hold, want, lend, settle, upgradeWaits, upgraded, isEmpty, upgrade}
 use Rattle.rules.specs.Refusals.{first, isFound, anyWorn, refusals}
 use Rattle.rules.specs.Step.{after, outcome}
+use Rattle.variants.specs.Step.{deliveredBy, madeBy, stepBy, runsBy}
+use Rattle.variants.specs.Rests.{isStill}
 use Rattle.shortcuts.specs.Choices.{Choices, right, matchedByRoom, testedByHeld, entryLeft, counterUnlifted}
-use Rattle.shortcuts.specs.Rules.{reducedBy, tokenedAs, passedAs, passBy, serveQueueBy, serveBy, settleOrServeBy, askBy, handBackBy, takeRequestBy, receiveBy}
-use Rattle.shortcuts.specs.Step.{deliveredBy, madeBy, stepBy, runsBy}
-use Rattle.shortcuts.specs.Rests.{isStill}
+use Rattle.shortcuts.specs.Rules.{reducedBy, tokenedAs, passedAs, passBy, serveQueueBy, serveBy, settleOrServeBy, askBy, handBackBy, takeRequestBy, receiveBy, rulesBy}
 use Rattle.shortcuts.specs.Sessions.{spring, heldOrOwned, entryCleared, counterLifted}
 
 -- the table of three rooms that a session leads to
 abbrev pub endOf : Choices → List Event → Table
-endOf c es = runsBy c (freshTable 3) es
+endOf c es = runsBy (rulesBy c) (freshTable 3) es
 
 -- the modes that the three rooms hold
 abbrev pub heldIn : Table → List ℕ

@@ -10,8 +10,9 @@ use Rattle.modes.specs.Modes.{agrees}
 use Rattle.table.specs.declared.Table.{Table}
 use Rattle.table.specs.Tables.{roomAt}
 use Rattle.safe.specs.Reached.{Demand3}
+use Rattle.variants.specs.Rests.{Rests, rests}
 use Rattle.shortcuts.specs.Choices.{matchedByRoom, testedByHeld, entryLeft, counterUnlifted}
-use Rattle.shortcuts.specs.Rests.{Rests, rests}
+use Rattle.shortcuts.specs.Rules.{rulesBy}
 use Rattle.shortcuts.specs.Sessions.{spring, heldOrOwned, entryCleared, counterLifted}
 use Rattle.shortcuts.specs.Ends.{endOf, heldIn, ends}
 
@@ -38,8 +39,8 @@ unfolding agrees
 tested-by-held = held-forbidden (endOf testedByHeld heldOrOwned) W IR none (ends .by-held) refl
 
 -- "Leaving the receiver's entry when the token goes: it is never repaid." Nothing more is accepted, and room 0 has not been given its write.
-pub entry-left : Rests entryLeft (endOf entryLeft entryCleared) × (roomAt (endOf entryLeft entryCleared) 0 .wanted ≡ W)
-entry-left = (rests entryLeft (endOf entryLeft entryCleared) (ends .left-still), ends .left-waits)
+pub entry-left : Rests (rulesBy entryLeft) (endOf entryLeft entryCleared) × (roomAt (endOf entryLeft entryCleared) 0 .wanted ≡ W)
+entry-left = (rests (rulesBy entryLeft) (endOf entryLeft entryCleared) (ends .left-still), ends .left-waits)
 
 -- "Choosing the link number of a TOKEN without lifting the receiver's counter."
 pub counter-unlifted : Demand3 3 (endOf counterUnlifted counterLifted) → ⊥

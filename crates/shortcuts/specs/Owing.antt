@@ -29,21 +29,21 @@ use Rattle.tree.specs.Tree.{isGrant, Tree}
 use Rattle.safe.specs.Reached.{Demand3}
 use Rattle.safe.specs.Step.{Safe, step-safe}
 use Rattle.twelve.specs.Twelve.{asks, delivers}
+use Rattle.variants.specs.Step.{deliveredBy, madeBy, stepBy, runsBy}
 use Rattle.shortcuts.specs.Choices.{right, lentToAnyone}
-use Rattle.shortcuts.specs.Rules.{reducedBy, serveQueueBy, serveBy, settleOrServeBy, askBy, takeRequestBy, receiveBy}
-use Rattle.shortcuts.specs.Step.{deliveredBy, madeBy, stepBy, runsBy}
-use Rattle.shortcuts.specs.Same.{same-step}
+use Rattle.shortcuts.specs.Rules.{reducedBy, serveQueueBy, serveBy, settleOrServeBy, askBy, takeRequestBy, receiveBy, rulesBy}
+use Rattle.shortcuts.specs.Same.{same-once}
 use Rattle.shortcuts.specs.Ends.{heldIn}
 use Rattle.shortcuts.specs.Forbidden.{held-forbidden}
 use Rattle.shortcuts.specs.Crossing.{crossing, crossing-safe}
 
 -- room 2's REQUEST is delivered to room 1, which lends
 unfoldable pub crossed : Table
-crossed = runsBy lentToAnyone crossing (delivers 2 1 ∷ [])
+crossed = runsBy (rulesBy lentToAnyone) crossing (delivers 2 1 ∷ [])
 
 -- then room 2 takes the loan and repays room 0, which asks for a write
 unfoldable pub unanswered : Table
-unanswered = runsBy lentToAnyone crossed (delivers 1 2 ∷ delivers 2 0 ∷ asks 0 W ∷ [])
+unanswered = runsBy (rulesBy lentToAnyone) crossed (delivers 1 2 ∷ delivers 2 0 ∷ asks 0 W ∷ [])
 
 record Owes : Type 0 where
   -- room 1 still owes room 2, and its own GRANT is under way there
@@ -59,9 +59,9 @@ unfolding crossing crossed unanswered runsBy stepBy madeBy deliveredBy outcome a
 owes = record { debt = refl; grant = refl; held = refl }
 
 -- By the rules every event leads on to a table with the invariant.
-pub crossing-right : (e : Event) → Safe 3 (stepBy right crossing e .table)
+pub crossing-right : (e : Event) → Safe 3 (stepBy (rulesBy right) crossing e .table)
 crossing-right e =
-    subst⁻¹ (λ (r : Answer). Safe 3 (r .table)) (same-step crossing e (crossing-safe .lawful .0)) (step-safe 3 crossing crossing-safe e)
+    subst⁻¹ (λ (r : Answer). Safe 3 (r .table)) (same-once crossing e (crossing-safe .lawful .0)) (step-safe 3 crossing crossing-safe e)
 
 -- By the shortcut no ranks are left: rooms 1 and 2 would each rank above the other.
 pub crossed-owing : Tree 3 (roomAt crossed) (messagesOf crossed) → ⊥

@@ -16,6 +16,7 @@ use Rattle.table.specs.declared.Message.{Message}
 use Rattle.table.specs.declared.Message.the-variants as msg
 use Rattle.rules.specs.Work.{Work, withRoom, withQueue, withWorn, send, join, change}
 use Rattle.rules.specs.Rules.{hold, want, lend, settle, upgradeWaits, upgraded, isEmpty}
+use Rattle.variants.specs.Step.{Rules}
 use Rattle.shortcuts.specs.Choices.{Choices}
 
 module _ (c : Choices) where
@@ -84,3 +85,7 @@ module _ (c : Choices) where
   receiveBy w a (msg.Grant m l) = change w (granted (w .room) a m l)
   receiveBy w a (msg.Token m rest l) = serveBy (change w (tokenedAs (w .room) (w .me) a m rest l))
   receiveBy w a (msg.Reduce l m) = settleOrServeBy (withRoom w (reducedBy (w .room) a l m))
+
+-- the rules with these choices
+abbrev pub rulesBy : Choices → Rules
+rulesBy c = record { asks = askBy c; handsBack = handBackBy c; receives = receiveBy c }

@@ -20,27 +20,28 @@ use Rattle.rules.specs.Work.{send, join, sendOut}
 use Rattle.rules.specs.Rules.{hold, want, lend, pass, settle, upgradeWaits, upgraded, serveQueue, serve, isEmpty, askWith, askWithout, ask, upgrade}
 use Rattle.rules.specs.Refusals.{first, isFound, anyWorn, refusals}
 use Rattle.rules.specs.Step.{after, outcome}
-use Rattle.stalls.specs.Stalls.{asks, delivers}
-use Rattle.stalls.specs.Habits.{Habits, circling, settleOrServeBy, handBackBy, takeRequestBy, receiveBy, deliveredBy, madeBy, stepBy, runsBy}
+use Rattle.twelve.specs.Twelve.{asks, delivers}
+use Rattle.variants.specs.Step.{Rules, deliveredBy, madeBy, stepBy, runsBy}
+use Rattle.stalls.specs.Habits.{circling, settleOrServeBy, handBackBy, takeRequestBy, receiveBy, rulesBy}
 
 -- room 2 has got the token and writes; room 1 has asked to read, and its REQUEST is at room 0, which sends it back
 abbrev pub begun : Table
-begun = runsBy circling (freshTable 3) (asks 2 W ∷ delivers 2 0 ∷ delivers 0 2 ∷ asks 1 R ∷ delivers 1 0 ∷ [])
+begun = runsBy (rulesBy circling) (freshTable 3) (asks 2 W ∷ delivers 2 0 ∷ delivers 0 2 ∷ asks 1 R ∷ delivers 1 0 ∷ [])
 
 -- deliveries to and fro, and how many of a list are accepted
 unfoldable pub rounds : ℕ → List Event
 rounds zero = []
 rounds (suc k) = delivers 0 1 ∷ delivers 1 0 ∷ rounds k
 
-unfoldable pub acceptedBy : Habits → Table → List Event → ℕ
-acceptedBy h t [] = 0
-acceptedBy h t (e ∷ es) = one (eqb (stepBy h t e .«number») DONE) + acceptedBy h (stepBy h t e .table) es
+unfoldable pub acceptedBy : Rules → Table → List Event → ℕ
+acceptedBy r t [] = 0
+acceptedBy r t (e ∷ es) = one (eqb (stepBy r t e .«number») DONE) + acceptedBy r (stepBy r t e .table) es
 
 -- "at most 3n² + 8n + m further steps are accepted" fails for a REQUEST that goes round in a circle: of 54 deliveries none is refused, and the bound is 52
 pub circle-bound : 3 * (begun .n * begun .n) + 8 * begun .n + begun .count ≡ 52
 unfolding runsBy freshTable stepBy madeBy deliveredBy outcome after first isFound anyWorn oldestOf oldestIn takeRequestBy receiveBy settleOrServeBy handBackBy ask askWith askWithout upgrade upgraded upgradeWaits serveQueue serve settle lend pass hold want isEmpty send join sendOut nextLink isWorn lentTo lent left remaining passedTo passed credited settled leaving granted lifted tokenedBy tokened reduced entryOf larger strongest owned hasNoEntries agrees isStronger canLend remove padded refusals
 circle-bound = refl
 
-pub in-a-circle : acceptedBy circling begun (rounds 27) ≡ 54
+pub in-a-circle : acceptedBy (rulesBy circling) begun (rounds 27) ≡ 54
 unfolding runsBy freshTable stepBy madeBy deliveredBy outcome after first isFound anyWorn oldestOf oldestIn takeRequestBy receiveBy settleOrServeBy handBackBy ask askWith askWithout upgrade upgraded upgradeWaits serveQueue serve settle lend pass hold want isEmpty send join sendOut nextLink isWorn lentTo lent left remaining passedTo passed credited settled leaving granted lifted tokenedBy tokened reduced entryOf larger strongest owned hasNoEntries agrees isStronger canLend remove padded refusals acceptedBy rounds
 in-a-circle = refl

@@ -1,4 +1,4 @@
--- The step with the five places open. The test of well-formedness is left out: no table that the rules lead to from a fresh one fails it.
+-- The step with its rules left open. The test of well-formedness is left out: no table that the rules lead to from a fresh one fails it.
 use Prim.Native.Nat.{ℕ}
 use mathlib.Core.List.{List, [], _∷_}
 use lib.Dec.{eqb}
@@ -9,28 +9,33 @@ use Rattle.table.specs.declared.Table.{Table}
 use Rattle.table.specs.declared.Answer.{Answer}
 use Rattle.table.specs.declared.Found.{Found}
 use Rattle.table.specs.declared.Found.the-variants as found
+use Rattle.table.specs.declared.Message.{Message}
 use Rattle.table.specs.Numbers.{DONE, EMPTY}
 use Rattle.table.specs.Tables.{messagesOf, answer}
 use Rattle.table.specs.Oldest.{oldestOf}
 use Rattle.rules.specs.declared.Event.{Event}
-use Rattle.rules.specs.Work.{workAt}
+use Rattle.rules.specs.Work.{Work, workAt}
 use Rattle.rules.specs.Rules.{upgrade}
 use Rattle.rules.specs.Events.{isAsk, isUpgrade, isHandBack}
 use Rattle.rules.specs.Refusals.{first, refusals}
 use Rattle.rules.specs.Step.{outcome}
-use Rattle.shortcuts.specs.Choices.{Choices}
-use Rattle.shortcuts.specs.Rules.{askBy, handBackBy, receiveBy}
 
-module _ (c : Choices) where
+-- what a room does with an event that is not refused; an upgrade is as the rules have it
+pub record Rules : Type 0 where
+  pub asks : Work → ℕ → Work
+  pub handsBack : Work → Work
+  pub receives : Work → ℕ → Message → Work
+
+module _ (r : Rules) where
   unfoldable pub deliveredBy : Table → ℕ → ℕ → Found → Answer
   deliveredBy t a b found.Nothing = answer EMPTY t
-  deliveredBy t a b (found.At k m) = outcome t (remove k (messagesOf t)) (receiveBy c (workAt t b) a m)
+  deliveredBy t a b (found.At k m) = outcome t (remove k (messagesOf t)) (r .receives (workAt t b) a m)
 
   unfoldable pub madeBy : Table → Event → Answer
   madeBy t e =
-      if isAsk e then outcome t (messagesOf t) (askBy c (workAt t (e .room)) (e .mode))
+      if isAsk e then outcome t (messagesOf t) (r .asks (workAt t (e .room)) (e .mode))
       else if isUpgrade e then outcome t (messagesOf t) (upgrade (workAt t (e .room)))
-      else if isHandBack e then outcome t (messagesOf t) (handBackBy c (workAt t (e .room)))
+      else if isHandBack e then outcome t (messagesOf t) (r .handsBack (workAt t (e .room)))
       else deliveredBy t (e .room) (e .other) (oldestOf t (e .room) (e .other))
 
   -- the first row of the refusals is TABLE

@@ -15,25 +15,24 @@ use Rattle.table.specs.Oldest.{oldestIn, oldestOf}
 use Rattle.rules.specs.declared.Event.{Event}
 use Rattle.rules.specs.Events.{HANDBACK, DELIVER, isHandBack, isDeliver}
 use Rattle.rules.specs.Refusals.{first, isFound, refusals}
-use Rattle.shortcuts.specs.Choices.{Choices}
-use Rattle.shortcuts.specs.Step.{stepBy}
+use Rattle.variants.specs.Step.{Rules, stepBy}
 
 -- no delivery and no hand-back is accepted
-abbrev pub Rests : Choices → Table → Type 0
-Rests c t = (e : Event) → (isDeliver e || isHandBack e) ≡ true → stepBy c t e .«number» ≢ DONE
+abbrev pub Rests : Rules → Table → Type 0
+Rests r t = (e : Event) → (isDeliver e || isHandBack e) ≡ true → stepBy r t e .«number» ≢ DONE
 
 -- no message is on the wires, and each room that holds a mode waits
 unfoldable pub isStill : Table → Bool
 isStill t = eqb (t .count) 0 && allBelow (t .n) (λ x. eqb (roomAt t x .held) 0 || not (eqb (roomAt t x .wanted) 0))
 
-module _ (c : Choices) (t : Table) (still : isStill t ≡ true) where
-  delivery : (e : Event) → e .kind ≡ DELIVER → stepBy c t e .«number» ≢ DONE
+module _ (r : Rules) (t : Table) (still : isStill t ≡ true) where
+  delivery : (e : Event) → e .kind ≡ DELIVER → stepBy r t e .«number» ≢ DONE
   unfolding stepBy refusals first isFound oldestOf oldestIn isStill
   delivery e kind =
       let empty : t .count ≡ 0 = eqb-true _ _ (and-left _ _ still) in
       rw (kind, empty) (split (leb (t .n) (e .room) || leb (t .n) (e .other)) (λ b. rw b (λ z. omega arith)) (λ b. rw b (λ z. omega arith)))
 
-  hand-back : (e : Event) → e .kind ≡ HANDBACK → stepBy c t e .«number» ≢ DONE
+  hand-back : (e : Event) → e .kind ≡ HANDBACK → stepBy r t e .«number» ≢ DONE
   unfolding stepBy refusals first isStill
   hand-back e kind =
       rw kind
@@ -47,5 +46,5 @@ module _ (c : Choices) (t : Table) (still : isStill t ≡ true) where
           ⊎-elim (λ h. h) (λ h. clash w (not-true _ h))
           (or-use _ _ (all-at (t .n) (λ x. eqb (roomAt t x .held) 0 || not (eqb (roomAt t x .wanted) 0)) (and-right (eqb (t .count) 0) _ still) (e .room) (leb-false _ _ b)))
 
-  pub rests : Rests c t
+  pub rests : Rests r t
   rests e h = ⊎-elim (λ d. delivery e (eqb-true _ _ d)) (λ d. hand-back e (eqb-true _ _ d)) (or-use (isDeliver e) (isHandBack e) h)

@@ -1,0 +1,3 @@
+pub mod Step
+pub mod Same
+pub mod Rests
