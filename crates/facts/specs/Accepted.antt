@@ -1,5 +1,5 @@
 -- What an accepted event has: none of the refusals applies.
-use mathlib.Core.Path.{_≡_, refl}
+use mathlib.Core.Path.{_≡_, refl, _∙_}
 use mathlib.Core.Logic.{_≢_}
 use mathlib.Core.Bool.{Bool, true, false, _&&_, _||_, true≢false, false≢true}
 use mathlib.Core.List.{List, _∷_}
@@ -23,7 +23,7 @@ use Rattle.rules.specs.declared.Event.{Event}
 use Rattle.rules.specs.Limits.{busyLimit, wornLimit}
 use Rattle.rules.specs.Events.{isAsk, isUpgrade, isHandBack, isDeliver}
 use Rattle.rules.specs.Step.{made, stepOf}
-use Rattle.rules.specs.Refusals.{Row, row, first, refusals, refusal, isFound, anyWorn}
+use Rattle.rules.specs.Refusals.{Row, row, first, refusal, refusalAs, refusal-told, isFound, anyWorn}
 
 -- the first number is 0 only where the row does not apply
 first-none : (k : ℕ) (b : Bool) (rows : List Row) → first (row k b ∷ rows) ≡ 0 → k ≢ 0 → (b ≡ false) × (first rows ≡ 0)
@@ -47,9 +47,9 @@ all-unworn : (t : Table) → anyWorn t ≡ false → (c : ℕ) → c < t .n → 
 unfolding anyWorn
 all-unworn t h c l = ltb-true _ _ (all-at (t .n) (λ c. ltb (roomAt t c .counter) wornLimit) (not-false _ h) c l)
 
-pub record Accepted (t : Table) (e : Event) : Type 0 where
+pub record AcceptedAs (told : Bool) (t : Table) (e : Event) : Type 0 where
   -- 1 TABLE
-  pub formed : wellFormed t ≡ true
+  pub formed : told ≡ true
   -- 2 EVENT
   pub kinds : isAsk e ≡ false → isUpgrade e ≡ false → isHandBack e ≡ false → isDeliver e ≡ true
   -- 3 ROOM
@@ -72,9 +72,10 @@ pub record Accepted (t : Table) (e : Event) : Type 0 where
   -- 10 WORN, by a counter
   pub unworn : isAsk e ≡ true → (c : ℕ) → c < t .n → roomAt t c .counter < wornLimit
 
-pub accepted : (t : Table) (e : Event) → refusal t e ≡ 0 → Accepted t e
-unfolding refusal refusals
-accepted t e h =
+-- where it is told whether the table is well formed
+pub accepted-as : (told : Bool) (t : Table) (e : Event) → refusalAs told t e ≡ 0 → AcceptedAs told t e
+unfolding refusalAs
+accepted-as told t e h =
     let one = first-none 1 _ _ h (λ z. omega arith) in
     let two = first-none 2 _ _ (one .1) (λ z. omega arith) in
     let three = first-none 3 _ _ (two .1) (λ z. omega arith) in
@@ -86,7 +87,7 @@ accepted t e h =
     let nine = first-none 9 _ _ (eight .1) (λ z. omega arith) in
     let ten = first-none 10 _ _ (nine .1) (λ z. omega arith) in
     record {
-      formed = not-false (wellFormed t) (one .0);
+      formed = not-false told (one .0);
       kinds = λ a u b. rw (a, u, b) at (not-false (isAsk e || isUpgrade e || isHandBack e || isDeliver e) (two .0));
       near = λ d. leb-false _ _ (rw d at (or-false-right (leb (t .n) (e .room)) _ (three .0)));
       found = λ d n. nothing-found _ n (not-false _ (rw d at (eight .0)));
@@ -100,6 +101,12 @@ accepted t e h =
       few = λ a. leb-false _ _ (rw a at (nine .0));
       unworn = λ a. all-unworn t (rw a at (ten .0));
     }
+
+abbrev pub Accepted : Table → Event → Type 0
+Accepted t e = AcceptedAs (wellFormed t) t e
+
+pub accepted : (t : Table) (e : Event) → refusal t e ≡ 0 → Accepted t e
+accepted t e h = accepted-as (wellFormed t) t e (refusal-told t e ∙ h)
 
 -- an event that was accepted is one that no refusal applies to
 pub unrefused : (t : Table) (e : Event) → stepOf t e .«number» ≡ DONE → refusal t e ≡ DONE

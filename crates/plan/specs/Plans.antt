@@ -1,10 +1,10 @@
 -- A step as it is planned: a refusal, or what a room has done and which message it took.
 use Prim.Native.Nat.{ℕ, _≤_, _<_}
 use mathlib.Core.Path.{_≡_}
-use mathlib.Core.Bool.{true, false}
+use mathlib.Core.Bool.{Bool, false, _&&_}
 use mathlib.Core.List.{List}
 use lib.ListN.{replicate}
-use lib.Dec.{eqb}
+use lib.Dec.{leb, eqb}
 use Rattle.base.specs.Choice.{if_then_else_}
 use Rattle.room.specs.declared.Room.{Room}
 use Rattle.room.specs.Limits.{roomLimit}
@@ -16,12 +16,12 @@ use Rattle.table.specs.declared.Found.the-variants as found
 use Rattle.table.specs.Numbers.{DONE, EMPTY}
 use Rattle.table.specs.Tables.{noWire, noQueued}
 use Rattle.table.specs.Oldest.{oldestOf}
-use Rattle.table.specs.Formed.{wellFormed}
+use Rattle.table.specs.Limits.{wireLimit}
 use Rattle.rules.specs.declared.Event.{Event}
 use Rattle.rules.specs.Events.{isAsk, isUpgrade, isHandBack}
 use Rattle.rules.specs.Work.{workAt}
 use Rattle.rules.specs.Rules.{ask, upgrade, handBack, receive}
-use Rattle.rules.specs.Refusals.{refusal}
+use Rattle.rules.specs.Refusals.{refusalAs}
 use Rattle.act.specs.declared.Start.{Start}
 use Rattle.act.specs.declared.Done.{Done}
 use Rattle.act.specs.Desk.{placeLimit, outLimit}
@@ -56,12 +56,17 @@ doing t e =
     else if isHandBack e then madePlan (e .room) (t .count) 0 (doneOf (handBack (workAt t (e .room))))
     else taking t (e .room) (e .other) (oldestOf t (e .room) (e .other))
 
-unfoldable pub planOf : Table → Event → Plan
-planOf t e = if eqb (refusal t e) DONE then doing t e else refusedPlan (refusal t e)
+-- the arrays have a place for each room and each message that is in use
+unfoldable pub placed : Table → Bool
+placed t = leb (t .n) roomLimit && leb (t .count) wireLimit
 
--- an event of this kind that three tests let through: the table is well formed, the kind is known, and the table has the room
+-- the plan, where it is told whether the table is well formed
+unfoldable pub planAs : Bool → Table → Event → Plan
+planAs formed t e =
+    if eqb (refusalAs formed t e) DONE then doing t e else refusedPlan (refusalAs formed t e)
+
+-- an event of this kind that the first tests let through: the kind is known, and the table has the room
 pub record Begins (t : Table) (e : Event) (k : ℕ) : Type 0 where
-  pub formed : wellFormed t ≡ true
   pub low : t .n ≤ roomLimit
   pub room : e .room < t .n
   pub kind : e .kind ≡ k

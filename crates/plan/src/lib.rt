@@ -1,13 +1,14 @@
 // What a step is going to do, worked out on the table as it came: the first refusal that applies, or what the rules make of one room.
 // Nothing is written here.
 ghost use mathlib.Core.Path.{_≡_};
-ghost use Rattle.table.specs.Formed.{wellFormed};
+ghost use mathlib.Core.Bool.{true, _&&_};
 ghost use Rattle.rules.specs.Events as events;
-ghost use Rattle.plan.specs.Plans.{startAt, madePlan, refusedPlan, planOf, Begins};
+ghost use Rattle.plan.specs.Plans.{startAt, madePlan, refusedPlan, placed, planAs, Begins};
 use act::Done;
 use act::OUTBOX;
 use act::PLACES;
 use act::Start;
+use room::MOST_ROOMS;
 use room::Room;
 use rules::ASK;
 use rules::DELIVER;
@@ -19,6 +20,7 @@ use table::Message;
 use table::QUEUE;
 use table::Queued;
 use table::Table;
+use table::WIRES;
 use table::Wire;
 use table::numbers;
 
@@ -91,7 +93,7 @@ fn refused(number: u8) -> Plan
 // ASK.
 fn ask(t: Table, e: Event) -> Plan
     requires { ⌜ Begins t e events.ASK ⌝ }
-    ensures { λ p. ⌜ p ≡ planOf t e ⌝ }
+    ensures { λ p. ⌜ p ≡ planAs true t e ⌝ }
 {
     let mode = e.mode;
     match mode {
@@ -100,11 +102,15 @@ fn ask(t: Table, e: Event) -> Plan
     }
     let x = e.room as usize;
     let room = t.rooms[x];
-    if room.wanted != modes::NONE {
-        return refused(numbers::WAITING);
+    let wanted = room.wanted;
+    match wanted {
+        modes::NONE => {}
+        modes::IR..=255 => return refused(numbers::WAITING),
     }
-    if room.held != modes::NONE {
-        return refused(numbers::HELD);
+    let held = room.held;
+    match held {
+        modes::NONE => {}
+        modes::IR..=255 => return refused(numbers::HELD),
     }
     if t.count >= BUSY_MESSAGES {
         return refused(numbers::BUSY);
@@ -127,15 +133,19 @@ fn ask(t: Table, e: Event) -> Plan
 // UPGRADE.
 fn upgrade(t: Table, e: Event) -> Plan
     requires { ⌜ Begins t e events.UPGRADE ⌝ }
-    ensures { λ p. ⌜ p ≡ planOf t e ⌝ }
+    ensures { λ p. ⌜ p ≡ planAs true t e ⌝ }
 {
     let x = e.room as usize;
     let room = t.rooms[x];
-    if room.wanted != modes::NONE {
-        return refused(numbers::WAITING);
+    let wanted = room.wanted;
+    match wanted {
+        modes::NONE => {}
+        modes::IR..=255 => return refused(numbers::WAITING),
     }
-    if room.held != modes::U {
-        return refused(numbers::NOT_HELD);
+    let held = room.held;
+    match held {
+        modes::U => {}
+        _ => return refused(numbers::NOT_HELD),
     }
     let queue = t.queue;
     let s = start(e.room, room, queue, t.queued);
@@ -146,15 +156,19 @@ fn upgrade(t: Table, e: Event) -> Plan
 // HANDBACK.
 fn hand_back(t: Table, e: Event) -> Plan
     requires { ⌜ Begins t e events.HANDBACK ⌝ }
-    ensures { λ p. ⌜ p ≡ planOf t e ⌝ }
+    ensures { λ p. ⌜ p ≡ planAs true t e ⌝ }
 {
     let x = e.room as usize;
     let room = t.rooms[x];
-    if room.wanted != modes::NONE {
-        return refused(numbers::WAITING);
+    let wanted = room.wanted;
+    match wanted {
+        modes::NONE => {}
+        modes::IR..=255 => return refused(numbers::WAITING),
     }
-    if room.held == modes::NONE {
-        return refused(numbers::NOT_HELD);
+    let held = room.held;
+    match held {
+        modes::NONE => return refused(numbers::NOT_HELD),
+        modes::IR..=255 => {}
     }
     let queue = t.queue;
     let s = start(e.room, room, queue, t.queued);
@@ -165,7 +179,7 @@ fn hand_back(t: Table, e: Event) -> Plan
 // DELIVER.
 fn deliver(t: Table, e: Event) -> Plan
     requires { ⌜ Begins t e events.DELIVER ⌝ }
-    ensures { λ p. ⌜ p ≡ planOf t e ⌝ }
+    ensures { λ p. ⌜ p ≡ planAs true t e ⌝ }
 {
     if e.other >= t.n {
         return refused(numbers::ROOM);
@@ -181,13 +195,18 @@ fn deliver(t: Table, e: Event) -> Plan
     made(e.other, place, 1, done)
 }
 
-// What a step on t by e is going to do, for any table and any event; formed says whether t is well formed.
-// Only for proved callers, who have tested that or have a proof of it; for all others there is step.
+// What a step on t by e is going to do, for any table and any event. formed tells whether t is well formed, and is believed as long as
+// the arrays have a place for each room and message.
 pub fn planned(t: Table, e: Event, formed: bool) -> Plan
-    requires { ⌜ formed ≡ wellFormed t ⌝ }
-    ensures { λ p. ⌜ p ≡ planOf t e ⌝ }
+    ensures { λ p. ⌜ p ≡ planAs (formed && placed t) t e ⌝ }
 {
     if !formed {
+        return refused(numbers::TABLE);
+    }
+    if t.n > MOST_ROOMS {
+        return refused(numbers::TABLE);
+    }
+    if t.count > WIRES {
         return refused(numbers::TABLE);
     }
     let kind = e.kind;

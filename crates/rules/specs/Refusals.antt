@@ -1,5 +1,6 @@
 -- "Numbers given back, in the order they are tried", as far as they are known before the step is made.
 use Prim.Native.Nat.{ℕ}
+use mathlib.Core.Path.{_≡_, refl}
 use mathlib.Core.Bool.{Bool, true, false, not, _&&_, _||_}
 use mathlib.Core.List.{List, [], _∷_}
 use lib.Dec.{ltb, leb, eqb}
@@ -38,9 +39,10 @@ isFound (found.At k m) = true
 unfoldable pub anyWorn : Table → Bool
 anyWorn t = not (allBelow (t .n) (λ c. ltb (roomAt t c .counter) wornLimit))
 
-unfoldable pub refusals : Table → Event → List Row
-refusals t e =
-    row TABLE (not (wellFormed t))
+-- the numbers in their order, where it is told whether the table is well formed
+abbrev pub refusalsAs : Bool → Table → Event → List Row
+refusalsAs formed t e =
+    row TABLE (not formed)
     ∷ row EVENT (not (isAsk e || isUpgrade e || isHandBack e || isDeliver e))
     ∷ row ROOM (leb (t .n) (e .room) || isDeliver e && leb (t .n) (e .other))
     ∷ row MODE (isAsk e && not (isMode (e .mode)))
@@ -52,5 +54,16 @@ refusals t e =
     ∷ row WORN (isAsk e && anyWorn t)
     ∷ []
 
+unfoldable pub refusals : Table → Event → List Row
+refusals t e = refusalsAs (wellFormed t) t e
+
 unfoldable pub refusal : Table → Event → ℕ
 refusal t e = first (refusals t e)
+
+-- the first refusal, where it is told whether the table is well formed
+unfoldable pub refusalAs : Bool → Table → Event → ℕ
+refusalAs formed t e = first (refusalsAs formed t e)
+
+pub refusal-told : (t : Table) (e : Event) → refusalAs (wellFormed t) t e ≡ refusal t e
+unfolding refusalAs refusal refusals
+refusal-told t e = refl

@@ -77,7 +77,7 @@ module _ (t : Table) (k : Known t) where
   obeyed-known (command.Make e) = step-known e
 
   -- one turn leads to such a table again
-  pub turned-known : (line out : List ℕ) (r : Turned) → r ≡ turnedOf t line out → Known (r .table)
+  pub turned-known : (line out : List ℕ) (r : Turned) → r ≡ turnedOf t (answerTo t line) out → Known (r .table)
   unfolding turnedOf answerTo
   turned-known line out r e =
       rw e (by-test (λ (r : Turned). Known (r .table)) (ltb (length out) lineLimit) _ _ (λ h. k) (λ h. obeyed-known (commandOf line)))

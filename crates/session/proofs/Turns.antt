@@ -1,5 +1,6 @@
 -- A law for each branch of a turn.
-use mathlib.Core.Path.{_≡_, sym, _∙_, ap}
+use mathlib.Core.Path.{_≡_, sym, _∙_, ap, subst}
+use mathlib.Core.Bool.{Bool}
 use mathlib.Core.List.{List}
 use Prim.Native.Nat.{ℕ, _≤_, _<_}
 use lib.ListN.{length}
@@ -7,13 +8,15 @@ use borrow.Author.Tests.{lt-ltb, le-ltb, eq-eqb, ne-eqb}
 use Rattle.table.specs.declared.Table.{Table}
 use Rattle.table.specs.declared.Answer.{Answer}
 use Rattle.table.specs.Tables.{answer, freshOf}
+use Rattle.table.specs.Formed.{wellFormed}
 use Rattle.rules.specs.declared.Event.{Event}
 use Rattle.rules.specs.Step.{stepOf}
+use Rattle.step.specs.Writes.{stepAs}
 use Rattle.reading.specs.declared.Command.{Command}
 use Rattle.reading.specs.declared.Command.the-variants as command
 use Rattle.reading.specs.Lines.{commandOf}
-use Rattle.writing.specs.Written.{lengthOf, writtenOf}
-use Rattle.session.specs.Turns.{begun, unread, obeyed, answerTo, turnedOf}
+use Rattle.writing.specs.Written.{lineLimit, lengthOf, writtenOf}
+use Rattle.session.specs.Turns.{begun, unread, obeyed, answerTo, obeyedAs, answerAs, turnedOf, Leaves}
 
 module _ (t : Table) where
   pub unread-blank : t .n ≡ 0 → answer 1 t ≡ unread t
@@ -33,37 +36,42 @@ module _ (t : Table) where
     unfolding begun
     begun-new h = rw (← e) (sym (simp (eq-eqb (a .«number») 0 h)))
 
-  module _ (c : Command) (r : Answer) where
-    pub obeyed-other : c ≡ command.Other → r ≡ unread t → r ≡ obeyed t c
-    unfolding obeyed
-    obeyed-other e p = rw e p
+  module _ (formed : Bool) (c : Command) (r : Answer) where
+    -- the answer, told and told rightly
+    abbrev Obeys : Type 0
+    Obeys = (r ≡ obeyedAs formed t c) × (formed ≡ wellFormed t → r ≡ obeyed t c)
 
-    pub obeyed-fresh : (n : ℕ) → c ≡ command.Fresh n → r ≡ begun t (freshOf n) → r ≡ obeyed t c
-    unfolding obeyed
-    obeyed-fresh n e p = rw e p
+    pub obeyed-other : c ≡ command.Other → r ≡ unread t → Obeys
+    unfolding obeyed obeyedAs
+    obeyed-other e p = (rw e p, λ right. rw e p)
 
-    pub obeyed-make : (e : Event) → c ≡ command.Make e → r ≡ stepOf t e → r ≡ obeyed t c
-    unfolding obeyed
-    obeyed-make e q p = rw q p
+    pub obeyed-fresh : (n : ℕ) → c ≡ command.Fresh n → r ≡ begun t (freshOf n) → Obeys
+    unfolding obeyed obeyedAs
+    obeyed-fresh n e p = (rw e p, λ right. rw e p)
 
-  module _ (line out : List ℕ) where
-    module _ (h : length out < 64) where
-      pub turn-short : record { table = t; length = 0 } ≡ turnedOf t line out
-      unfolding turnedOf
-      turn-short = sym (simp (lt-ltb (length out) 64 h))
+    pub obeyed-make : (e : Event) → c ≡ command.Make e → r ≡ stepAs formed t e → (formed ≡ wellFormed t → r ≡ stepOf t e) → Obeys
+    unfolding obeyed obeyedAs
+    obeyed-make e q p h = (rw q p, λ right. rw q (h right))
 
-      pub text-short : (a : Answer) → out ≡ writtenOf (a .«number») (a .table) out
-      unfolding writtenOf
-      text-short a = sym (simp (lt-ltb (length out) 64 h))
+  module _ (a : Answer) (out : List ℕ) where
+    -- no room for an answer
+    pub leaves-short : length out < lineLimit → Leaves t a out (record { table = t; length = 0 }) out
+    unfolding turnedOf writtenOf
+    leaves-short h = (sym (simp (lt-ltb (length out) lineLimit h)), sym (simp (lt-ltb (length out) lineLimit h)))
 
-    module _ (h : 64 ≤ length out) (c : Command) (p : c ≡ commandOf line) (a : Answer) (q : a ≡ obeyed t c) where
-      same : a ≡ answerTo t line
-      unfolding answerTo
-      same = q ∙ ap (obeyed t) p
+    -- an answer that is written, by whichever name
+    pub leaves-made : lineLimit ≤ length out → (k : ℕ) (new : List ℕ) → k ≡ lengthOf (a .«number») (a .table) out → new ≡ writtenOf (a .«number») (a .table) out
+        → (x : Answer) → a ≡ x → Leaves t x out (record { table = a .table; length = k }) new
+    unfolding turnedOf
+    leaves-made h k new e f x same =
+        subst (λ (y : Answer). Leaves t y out (record { table = a .table; length = k }) new) same (rw e (sym (simp (le-ltb (length out) lineLimit h))), f)
 
-      pub turn-made : (k : ℕ) → k ≡ lengthOf (a .«number») (a .table) out → record { table = a .table; length = k } ≡ turnedOf t line out
-      unfolding turnedOf
-      turn-made k e = rw (e, ← same) (sym (simp (le-ltb (length out) 64 h)))
+  -- what was read of a line is its command, so what is given for that is the answer to the line
+  module _ (line : List ℕ) (c : Command) (p : c ≡ commandOf line) (a : Answer) where
+    pub answers-as : (formed : Bool) → a ≡ obeyedAs formed t c → a ≡ answerAs formed t line
+    unfolding answerAs
+    answers-as formed q = q ∙ ap (obeyedAs formed t) p
 
-      pub text-made : (new : List ℕ) → new ≡ writtenOf (a .«number») (a .table) out → new ≡ writtenOf (answerTo t line .«number») (answerTo t line .table) out
-      text-made new e = rw (← same) e
+    pub answers-to : a ≡ obeyed t c → a ≡ answerTo t line
+    unfolding answerTo
+    answers-to q = q ∙ ap (obeyed t) p

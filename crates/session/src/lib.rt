@@ -1,10 +1,11 @@
 // The session: one line in, one line out. A table goes from line to line, and before the first accepted `n` it is the blank one.
 ghost use mathlib.Core.Path.{_≡_};
+ghost use mathlib.Core.Bool.{not};
+ghost use lib.Dec.{eqb};
 ghost use Rattle.table.specs.Formed.{wellFormed};
 ghost use Rattle.table.specs.Tables.{freshOf};
-ghost use Rattle.writing.specs.Written.{writtenOf};
 ghost use Rattle.session.specs.Known.{Known};
-ghost use Rattle.session.specs.Turns.{begun, unread, obeyed, answerTo, turnedOf};
+ghost use Rattle.session.specs.Turns.{begun, unread, obeyed, answerTo, obeyedAs, answerAs, Leaves};
 use reading::Command;
 use reading::read;
 use table::Answer;
@@ -49,10 +50,10 @@ fn other(t: Table) -> Answer
     }
 }
 
-// What a line asks for is done, or refused; formed says whether t is well formed.
+// What a line asks for is done, or refused; formed tells whether t is well formed.
 fn obey(t: Table, c: Command, formed: bool) -> Answer
-    requires { ⌜ formed ≡ wellFormed t ⌝ }
-    ensures { λ r. ⌜ r ≡ obeyed t c ⌝ }
+    ensures { λ r. ⌜ r ≡ obeyedAs formed t c ⌝ }
+    ensures { λ r. ⌜ (formed ≡ wellFormed t → r ≡ obeyed t c) ⌝ }
 {
     match c {
         Command::Other => other(t),
@@ -61,11 +62,10 @@ fn obey(t: Table, c: Command, formed: bool) -> Answer
     }
 }
 
-// A turn; formed says whether t is well formed.
+// A turn; formed tells whether t is well formed.
 fn answer(t: Table, formed: bool, line: &[u8], out: &mut [u8]) -> Turned
-    requires { ⌜ formed ≡ wellFormed t ⌝ }
-    ensures { λ r. ⌜ r ≡ turnedOf t (now (line .entry)) (now (out .entry)) ⌝ }
-    ensures { λ r. ⌜ now (out .exit) ≡ writtenOf (answerTo t (now (line .entry)) .«number») (answerTo t (now (line .entry)) .table) (now (out .entry)) ⌝ }
+    ensures { λ r. ⌜ Leaves t (answerAs formed t (now (line .entry))) (now (out .entry)) r (now (out .exit)) ⌝ }
+    ensures { λ r. ⌜ (formed ≡ wellFormed t → Leaves t (answerTo t (now (line .entry))) (now (out .entry)) r (now (out .exit))) ⌝ }
 {
     if out.len() < LINE {
         return Turned {
@@ -84,20 +84,17 @@ fn answer(t: Table, formed: bool, line: &[u8], out: &mut [u8]) -> Turned
 
 // One turn: the table after a line, and the answer at the start of out. Where out is shorter than a line can be nothing is done.
 pub fn turn(t: Table, line: &[u8], out: &mut [u8]) -> Turned
-    ensures { λ r. ⌜ r ≡ turnedOf t (now (line .entry)) (now (out .entry)) ⌝ }
-    ensures { λ r. ⌜ now (out .exit) ≡ writtenOf (answerTo t (now (line .entry)) .«number») (answerTo t (now (line .entry)) .table) (now (out .entry)) ⌝ }
+    ensures { λ r. ⌜ Leaves t (answerTo t (now (line .entry))) (now (out .entry)) r (now (out .exit)) ⌝ }
 {
     let formed = formed::well_formed(t);
     answer(t, formed, line, out)
 }
 
-// The same turn on a table that the session made itself: it is not tested, and the next one is such a table too.
-// Only for proved callers, who know that of their table; for all others there is turn.
+// A turn without the test of the table: one with rooms is taken for well formed. On a table that a session makes it is the same turn,
+// and the next table is such a one too.
 pub fn turn_known(t: Table, line: &[u8], out: &mut [u8]) -> Turned
-    requires { ⌜ Known t ⌝ }
-    ensures { λ r. ⌜ r ≡ turnedOf t (now (line .entry)) (now (out .entry)) ⌝ }
-    ensures { λ r. ⌜ now (out .exit) ≡ writtenOf (answerTo t (now (line .entry)) .«number») (answerTo t (now (line .entry)) .table) (now (out .entry)) ⌝ }
-    ensures { λ r. ⌜ Known (r .table) ⌝ }
+    ensures { λ r. ⌜ Leaves t (answerAs (not (eqb (t .n) 0)) t (now (line .entry))) (now (out .entry)) r (now (out .exit)) ⌝ }
+    ensures { λ r. ⌜ (Known t → Leaves t (answerTo t (now (line .entry))) (now (out .entry)) r (now (out .exit)) × Known (r .table)) ⌝ }
 {
     let started = t.n != 0;
     answer(t, started, line, out)

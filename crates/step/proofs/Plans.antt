@@ -9,14 +9,15 @@ use lib.ListN.{length}
 use lib.Seq.{length-take-le}
 use borrow.Author.Tests.{eqb-true, eqb-false}
 use Rattle.base.specs.Choice.{split}
-use Rattle.base.specs.Arrays.{padded-fits}
+use Rattle.base.specs.Arrays.{padded, padded-fits}
 use Rattle.table.specs.declared.Table.{Table}
 use Rattle.table.specs.declared.Wire.{Wire}
 use Rattle.table.specs.declared.Found.{Found}
 use Rattle.table.specs.declared.Found.the-variants as found
-use Rattle.table.specs.Limits.{queueLimit}
+use Rattle.table.specs.Limits.{queueLimit, wireLimit}
 use Rattle.table.specs.Tables.{noWire, messagesOf, answer}
 use Rattle.table.specs.Oldest.{oldestOf}
+use Rattle.table.specs.Formed.{wellFormed}
 use Rattle.facts.specs.Shapes.{Shaped}
 use Rattle.facts.specs.Whole.{WellFormed, facts-of}
 use Rattle.facts.specs.Search.{oldest-low}
@@ -25,12 +26,12 @@ use Rattle.rules.specs.declared.Event.{Event}
 use Rattle.rules.specs.Events.{isAsk, isUpgrade, isHandBack, isDeliver}
 use Rattle.rules.specs.Work.{Work, workAt}
 use Rattle.rules.specs.Rules.{ask, upgrade, handBack, receive}
-use Rattle.rules.specs.Refusals.{refusal}
+use Rattle.rules.specs.Refusals.{refusal, refusal-told}
 use Rattle.rules.specs.Step.{outcome, delivered, made, stepOf}
 use Rattle.act.specs.Desk.{outLimit}
 use Rattle.act.specs.Done.{doneOf}
 use Rattle.plan.specs.declared.Plan.{Plan}
-use Rattle.plan.specs.Plans.{madePlan, refusedPlan, taking, doing, planOf}
+use Rattle.plan.specs.Plans.{madePlan, refusedPlan, taking, doing, planAs}
 use Rattle.step.specs.Writes.{without, Takes}
 use Rattle.step.proofs.Outcomes.{without-none, without-one}
 use Rattle.step.proofs.Queues.{Grows, ask-grows, upgrade-grows, hand-back-grows, receive-grows}
@@ -44,6 +45,7 @@ pub record Made (t : Table) (e : Event) (p : Plan) : Type 0 where
   pub done : p .done ≡ doneOf work
   pub sent : p .done .sent ≤ outLimit
   pub takes : Takes t (p .me) (p .place) (p .gap)
+  pub blank : t .wires ≡ padded wireLimit noWire (messagesOf t)
   pub step : outcome t (without t (p .place) (p .gap)) work ≡ stepOf t e
 
 -- a plan for the step on t by e
@@ -88,6 +90,7 @@ module _ (t : Table) (s : Shaped t) (e : Event) where
             done = refl;
             sent = padded-fits outLimit noWire (w .sent) long;
             takes = k;
+            blank = facts .wires-blank;
             step = q ∙ steps;
           };
         }
@@ -97,7 +100,7 @@ module _ (t : Table) (s : Shaped t) (e : Event) where
         → outcome t (messagesOf t) w ≡ made t e → Plans t e (madePlan (e .room) (t .count) 0 (doneOf w))
     own-plans w most g room long q =
         plans (e .room) (t .count) 0
-        (record { one = omega arith; low = omega arith; count = facts .count; acts = omega (arith, acts .low, facts .low); blank = facts .wires-blank })
+        (record { one = omega arith; low = omega arith; count = facts .count; acts = omega (arith, acts .low, facts .low) })
         w most g room long (ap (λ (l : List Wire). outcome t l w) (without-none t (s .wires) (facts .count)) ∙ q)
 
     -- a delivery
@@ -110,7 +113,7 @@ module _ (t : Table) (s : Shaped t) (e : Event) where
         let all = length-take-le (t .count) (t .wires) (omega (arith, facts .count, s .wires)) in
         let w = receive (workAt t (e .other)) (e .room) m in
         plans (e .other) k 1
-        (record { one = omega arith; low = omega arith; count = facts .count; acts = omega (arith, acts .near d, facts .low); blank = facts .wires-blank })
+        (record { one = omega arith; low = omega arith; count = facts .count; acts = omega (arith, acts .near d, facts .low) })
         w _ (receive-grows (workAt t (e .other)) (e .room) m) (receive-place t s (acts .formed) (e .room) (e .other) k m o) long
         (ap (λ (l : List Wire). outcome t l w) (without-one t (s .wires) (facts .count) k) ∙ q)
 
@@ -130,10 +133,10 @@ module _ (t : Table) (s : Shaped t) (e : Event) where
         other : isAsk e ≡ true → isDeliver e ≡ false
         other a = rw (eqb-true (e .kind) 0 a)
 
-  -- the plan is one for the step
-  pub plans-of : (p : Plan) → p ≡ planOf t e → length (p .done .out) ≡ outLimit → Plans t e p
-  unfolding planOf
+  -- the plan, where it is told rightly whether the table is well formed, is one for the step
+  pub plans-of : (p : Plan) → p ≡ planAs (wellFormed t) t e → length (p .done .out) ≡ outLimit → Plans t e p
+  unfolding planAs
   plans-of p q long =
       split (eqb (refusal t e) 0)
-      (λ z. let same : p ≡ doing t e = q ∙ simp z in rw same (doing-plans (eqb-true _ _ z) (rw same at long)))
-      (λ z. let same : p ≡ refusedPlan (refusal t e) = q ∙ simp z in rw same (refused-plans (refusal t e) refl (λ n. absurd (eqb-false _ _ z n))))
+      (λ z. let same : p ≡ doing t e = q ∙ simp (refusal-told t e, z) in rw same (doing-plans (eqb-true _ _ z) (rw same at long)))
+      (λ z. let same : p ≡ refusedPlan (refusal t e) = q ∙ simp (refusal-told t e, z) in rw same (refused-plans (refusal t e) refl (λ n. absurd (eqb-false _ _ z n))))

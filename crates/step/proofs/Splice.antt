@@ -5,7 +5,7 @@ use mathlib.Core.List.{List, _++_}
 use Prim.Native.Nat.{ℕ, _+_, _-_, _≤_, _<_}
 use native.Mathlib.Omega.{arith}
 use lib.Dec.{ltb}
-use lib.ListN.{length, getD, set, take, drop, length-append, length-drop, length-set, List·getD-append}
+use lib.ListN.{length, getD, set, take, drop, length-append, length-drop, length-replicate, length-set, List·getD-append}
 use lib.Seq.{length-take-le, getD-append-add, getD-take, getD-drop, getD-set-same, getD-set-other, ext-getD}
 use borrow.Author.Tests.{lt-ltb, le-ltb}
 use Rattle.base.specs.Choice.{if_then_else_}
@@ -19,13 +19,19 @@ use Rattle.table.specs.Tables.{noWire, noQueued, messagesOf}
 use Rattle.rules.specs.Step.{after}
 use Rattle.act.specs.Desk.{placeLimit, outLimit}
 use Rattle.act.specs.declared.Done.{Done}
-use Rattle.step.specs.Writes.{without, Takes, Writes}
+use Rattle.plan.specs.declared.Plan.{Plan}
+use Rattle.step.specs.Writes.{without, Takes, inUse, wiresAfter, writtenOf, Writes}
 
 -- an element of two lists in a row, past the first
 getD-right : (xs ys : List Wire) (j : ℕ) → length xs ≤ j → getD (xs ++ ys) j noWire ≡ getD ys (j - length xs) noWire
 getD-right xs ys j h =
     let e : j ≡ length xs + (j - length xs) = omega arith in
     ap (λ (i : ℕ). getD (xs ++ ys) i noWire) e ∙ getD-append-add xs ys (j - length xs) noWire
+
+-- an array is as long as asked, or as the list where that is longer
+padded-long : (k : ℕ) (l : List Wire) → length (padded k noWire l) ≡ length l + (k - length l)
+unfolding padded
+padded-long k l = simp (length-append, length-replicate)
 
 -- the list without gap many at place, and then others
 abbrev pub spliced : List Wire → ℕ → ℕ → List Wire → List Wire
@@ -174,27 +180,97 @@ module _ (t : Table) (me place gap : ℕ) (k : Takes t me place gap) (long : len
     pub goal-past : t .count - gap + d .sent ≤ i → noWire ≡ target (messagesOf t) place gap (take (d .sent) (d .out)) i
     goal-past h = sym (target-past (messagesOf t) (take (d .sent) (d .out)) place gap fits i (omega (arith, all, sent)))
 
-  -- the wires at the end
-  laid-out : (q : List Queued) (n i : ℕ) (u : Table) → Mid (begun t me d q n) (target (messagesOf t) place gap (take (d .sent) (d .out))) i u
-      → d .sent + t .count ≤ wireLimit + gap → t .count ≤ i → t .count - gap + d .sent ≤ i
-      → u .wires ≡ padded wireLimit noWire (spliced (messagesOf t) place gap (take (d .sent) (d .out)))
-  laid-out q n i u m room h l =
-      half-end (t .wires) (u .wires) (spliced (messagesOf t) place gap (take (d .sent) (d .out))) i (m .half) (m .long)
-      (omega (arith, length-spliced (messagesOf t) (take (d .sent) (d .out)) place gap fits, all, sent, k .low))
-      (omega (arith, length-spliced (messagesOf t) (take (d .sent) (d .out)) place gap fits, all, sent))
-      (λ j b. ap (λ (ws : List Wire). getD ws j noWire) (k .blank) ∙ padded-high wireLimit noWire (messagesOf t) j (omega (arith, all)))
+  -- the places that were or are in use
+  used : List Wire
+  used = inUse t place gap d
 
-  -- the table at the end
-  pub written-is : (q : List Queued) (i : ℕ) (u : Table) → Mid (begun t me d q (t .count - gap + d .sent)) (target (messagesOf t) place gap (take (d .sent) (d .out))) i u
-      → d .sent + t .count ≤ wireLimit + gap → t .count ≤ i → t .count - gap + d .sent ≤ i → q ≡ take queueLimit (d .queue)
-      → Writes t me place gap d u
-  unfolding after
-  written-is q i u m room h l short w own few e =
-      let out : take (d .sent) (d .out) ≡ w .sent = ap (λ (x : Done). take (x .sent) (x .out)) e ∙ padded-take outLimit noWire (w .sent) in
-      let queue : q ≡ padded queueLimit noQueued (w .queue) = short ∙ ap (λ (x : Done). take queueLimit (x .queue)) e ∙ padded-short queueLimit placeLimit noQueued (w .queue) few (omega arith) in
-      let rooms : set (t .rooms) me (d .room) ≡ set (t .rooms) (w .me) (w .room) = ap (λ (x : Done). set (t .rooms) me (x .room)) e ∙ ap (λ (x : ℕ). set (t .rooms) x (w .room)) (sym own) in
-      let wires : u .wires ≡ padded wireLimit noWire (without t place gap ++ w .sent)
-      = laid-out q _ i u m room h l ∙ ap (λ (s : List Wire). padded wireLimit noWire (without t place gap ++ s)) out in
-      let count : t .count - gap + d .sent ≡ length (without t place gap ++ w .sent)
-      = omega (arith, length-spliced (messagesOf t) (w .sent) place gap fits, all, ap (λ (x : Done). x .sent) e) in
-      m .same ∙ (λ j. record { n = t .n; rooms = rooms j; queue = queue j; queued = e j .queued; wires = wires j; count = count j })
+  length-used : length used ≡ t .count + (t .count - gap + d .sent - t .count)
+  unfolding used
+  length-used =
+      omega (
+        arith,
+        padded-long (t .count) (spliced (messagesOf t) place gap (take (d .sent) (d .out))),
+        length-spliced (messagesOf t) (take (d .sent) (d .out)) place gap fits,
+        all,
+        sent,
+      )
+
+  module _ (room : d .sent + t .count ≤ wireLimit + gap) where
+    long-after : length (wiresAfter t place gap d) ≡ wireLimit
+    unfolding wiresAfter used
+    long-after = simp (length-append, length-drop) (omega (arith, length-used, long, k .low, k .count))
+
+    -- the wires after it are half way at the end of those places
+    half-after : Half (t .wires) (target (messagesOf t) place gap (take (d .sent) (d .out))) (length used) (wiresAfter t place gap d)
+    unfolding wiresAfter used
+    half-after j = go (below? j (length used))
+      where
+        lists : List Wire
+        lists = spliced (messagesOf t) place gap (take (d .sent) (d .out))
+
+        low : (j < length lists) ⊎ (length lists ≤ j) → getD (padded (t .count) noWire lists) j noWire ≡ getD (padded wireLimit noWire lists) j noWire
+        low (inl b) = padded-low (t .count) noWire lists j b ∙ sym (padded-low wireLimit noWire lists j b)
+        low (inr b) = padded-high (t .count) noWire lists j b ∙ sym (padded-high wireLimit noWire lists j b)
+
+        go : (j < length used) ⊎ (length used ≤ j)
+            → getD (wiresAfter t place gap d) j noWire
+            ≡ (if ltb j (length used) then target (messagesOf t) place gap (take (d .sent) (d .out)) j else getD (t .wires) j noWire)
+        go (inl b) = List·getD-append used (drop (length used) (t .wires)) noWire j b ∙ low (below? j (length lists)) ∙ sym (simp (lt-ltb j (length used) b))
+        go (inr b) =
+            let e : length used + (j - length used) ≡ j = omega arith in
+            getD-right used (drop (length used) (t .wires)) j b ∙ getD-drop (length used) (t .wires) (j - length used) noWire
+            ∙ ap (λ (i : ℕ). getD (t .wires) i noWire) e ∙ sym (simp (le-ltb j (length used) b))
+
+    -- so they are what the code has made at the end
+    pub wires-are : (q : List Queued) (n i : ℕ) (u : Table) → Mid (begun t me d q n) (target (messagesOf t) place gap (take (d .sent) (d .out))) i u
+        → i ≡ t .count + (t .count - gap + d .sent - t .count) → u .wires ≡ wiresAfter t place gap d
+    wires-are q n i u m e =
+        ext-getD noWire (u .wires) (wiresAfter t place gap d) (m .long ∙ sym long-after)
+        (λ j h. m .half j ∙ ap (λ (x : ℕ). if ltb j x then target (messagesOf t) place gap (take (d .sent) (d .out)) j else getD (t .wires) j noWire) (e ∙ sym length-used) ∙ sym (half-after j))
+
+    -- and, where the places past those in use are blank, the messages laid into the array
+    pub wires-laid : t .wires ≡ padded wireLimit noWire (messagesOf t)
+        → wiresAfter t place gap d ≡ padded wireLimit noWire (spliced (messagesOf t) place gap (take (d .sent) (d .out)))
+    wires-laid blank =
+        let spliced-length = length-spliced (messagesOf t) (take (d .sent) (d .out)) place gap fits in
+        half-end (t .wires) (wiresAfter t place gap d) (spliced (messagesOf t) place gap (take (d .sent) (d .out))) (length used) half-after long-after
+        (omega (arith, spliced-length, all, sent, k .low))
+        (omega (arith, spliced-length, all, sent, length-used))
+        (λ j b. ap (λ (ws : List Wire). getD ws j noWire) blank ∙ padded-high wireLimit noWire (messagesOf t) j (omega (arith, all, length-used)))
+
+-- the table that the code leaves
+pub written-is : (t : Table) (p : Plan) (k : Takes t (p .me) (p .place) (p .gap)) (long : length (t .wires) ≡ wireLimit) (far : p .done .sent ≤ length (p .done .out))
+    → p .done .sent + t .count ≤ wireLimit + p .gap
+    → (q : List Queued) (i : ℕ) (u : Table)
+    → Mid (begun t (p .me) (p .done) q (t .count - p .gap + p .done .sent)) (target (messagesOf t) (p .place) (p .gap) (take (p .done .sent) (p .done .out))) i u
+    → i ≡ t .count + (t .count - p .gap + p .done .sent - t .count) → q ≡ take queueLimit (p .done .queue) → u ≡ writtenOf t p
+unfolding writtenOf
+written-is t p k long far room q i u m e short =
+    let wires = wires-are t (p .me) (p .place) (p .gap) k long (p .done) far room q _ i u m e in
+    m .same
+    ∙ (λ j. record {
+      n = t .n;
+      rooms = set (t .rooms) (p .me) (p .done .room);
+      queue = short j;
+      queued = p .done .queued;
+      wires = wires j;
+      count = t .count - p .gap + p .done .sent;
+    })
+
+-- it is the table after the work, where the places past those in use were blank
+pub written-writes : (t : Table) (p : Plan) (k : Takes t (p .me) (p .place) (p .gap)) (long : length (t .wires) ≡ wireLimit) (far : p .done .sent ≤ length (p .done .out))
+    → p .done .sent + t .count ≤ wireLimit + p .gap → t .wires ≡ padded wireLimit noWire (messagesOf t) → Writes t (p .me) (p .place) (p .gap) (p .done) (writtenOf t p)
+unfolding writtenOf after
+written-writes t p k long far room blank w own few e =
+    let out : take (p .done .sent) (p .done .out) ≡ w .sent = ap (λ (x : Done). take (x .sent) (x .out)) e ∙ padded-take outLimit noWire (w .sent) in
+    let queue : take queueLimit (p .done .queue) ≡ padded queueLimit noQueued (w .queue)
+    = ap (λ (x : Done). take queueLimit (x .queue)) e ∙ padded-short queueLimit placeLimit noQueued (w .queue) few (omega arith) in
+    let rooms : set (t .rooms) (p .me) (p .done .room) ≡ set (t .rooms) (w .me) (w .room)
+    = ap (λ (x : Done). set (t .rooms) (p .me) (x .room)) e ∙ ap (λ (x : ℕ). set (t .rooms) x (w .room)) (sym own) in
+    let wires : wiresAfter t (p .place) (p .gap) (p .done) ≡ padded wireLimit noWire (without t (p .place) (p .gap) ++ w .sent)
+    = wires-laid t (p .me) (p .place) (p .gap) k long (p .done) far room blank
+    ∙ ap (λ (s : List Wire). padded wireLimit noWire (without t (p .place) (p .gap) ++ s)) out in
+    let every : length (messagesOf t) ≡ t .count = length-take-le (t .count) (t .wires) (omega (arith, k .count)) in
+    let count : t .count - p .gap + p .done .sent ≡ length (without t (p .place) (p .gap) ++ w .sent)
+    = omega (arith, length-spliced (messagesOf t) (w .sent) (p .place) (p .gap) (omega (arith, k .low, every)), every, ap (λ (x : Done). x .sent) e) in
+    λ j. record { n = t .n; rooms = rooms j; queue = queue j; queued = e j .queued; wires = wires j; count = count j }

@@ -1,9 +1,9 @@
 -- How the code writes a step into the table: messages taken out of the array, and what was done put in.
 use Prim.Native.Nat.{ℕ, _+_, _-_, _<_, _≤_}
 use mathlib.Core.Path.{_≡_}
-use mathlib.Core.Bool.{not}
+use mathlib.Core.Bool.{Bool, not, _&&_}
 use mathlib.Core.List.{List, _++_}
-use lib.ListN.{length, take, drop}
+use lib.ListN.{length, set, take, drop}
 use lib.Dec.{ltb, eqb}
 use Rattle.base.specs.Choice.{if_then_else_}
 use Rattle.base.specs.Arrays.{padded}
@@ -12,25 +12,27 @@ use Rattle.table.specs.declared.Table.{Table}
 use Rattle.table.specs.declared.Wire.{Wire}
 use Rattle.table.specs.Limits.{queueLimit, wireLimit}
 use Rattle.table.specs.Numbers.{DONE, WORN, FULL}
-use Rattle.table.specs.Tables.{noWire, messagesOf}
+use Rattle.table.specs.declared.Answer.{Answer}
+use Rattle.table.specs.Tables.{noWire, messagesOf, answer}
+use Rattle.rules.specs.declared.Event.{Event}
 use Rattle.rules.specs.Work.{Work}
 use Rattle.rules.specs.Step.{after}
 use Rattle.act.specs.Desk.{outLimit}
 use Rattle.act.specs.declared.Done.{Done}
 use Rattle.act.specs.Done.{doneOf}
 use Rattle.plan.specs.declared.Plan.{Plan}
+use Rattle.plan.specs.Plans.{placed, planAs}
 
 -- the messages without those at place, gap many
 abbrev pub without : Table → ℕ → ℕ → List Wire
 without t place gap = take place (messagesOf t) ++ drop (place + gap) (messagesOf t)
 
--- a message or none is taken out, of a table whose wires past those in use are blank
+-- a message or none is taken out
 pub record Takes (t : Table) (me place gap : ℕ) : Type 0 where
   pub one : gap ≤ 1
   pub low : place + gap ≤ t .count
   pub count : t .count ≤ wireLimit
   pub acts : me < roomLimit
-  pub blank : t .wires ≡ padded wireLimit noWire (messagesOf t)
 
 -- a plan that is made takes out no more messages than there are
 pub record Sized (count : ℕ) (p : Plan) : Type 0 where
@@ -43,6 +45,26 @@ pub record Fits (t : Table) (p : Plan) : Type 0 where
   pub sent : p .done .sent ≤ outLimit
   pub room : p .done .sent + t .count ≤ wireLimit + p .gap
 
+-- the places that were or are in use: what is left of the messages and what was sent, then blanks
+abbrev pub inUse : Table → ℕ → ℕ → Done → List Wire
+inUse t place gap d = padded (t .count) noWire (without t place gap ++ take (d .sent) (d .out))
+
+-- the wires then: the places behind those stay as they were
+unfoldable pub wiresAfter : Table → ℕ → ℕ → Done → List Wire
+wiresAfter t place gap d = inUse t place gap d ++ drop (length (inUse t place gap d)) (t .wires)
+
+-- a plan written into the table
+unfoldable pub writtenOf : Table → Plan → Table
+writtenOf t p =
+    record {
+      n = t .n;
+      rooms = set (t .rooms) (p .me) (p .done .room);
+      queue = take queueLimit (p .done .queue);
+      queued = p .done .queued;
+      wires = wiresAfter t (p .place) (p .gap) (p .done);
+      count = t .count - p .gap + p .done .sent;
+    }
+
 -- u is the table after the work that was done, whichever it was
 abbrev pub Writes : Table → ℕ → ℕ → ℕ → Done → Table → Type 0
 Writes t me place gap d u = (w : Work) → w .me ≡ me → length (w .queue) ≤ queueLimit → d ≡ doneOf w → u ≡ after t (without t place gap) w
@@ -54,3 +76,13 @@ endingOf count p =
     else if p .done .worn then WORN
     else if ltb (wireLimit - (count - p .gap)) (p .done .sent) then FULL
     else DONE
+
+-- the answer that a plan on t ends in
+unfoldable pub endsIn : Table → Plan → Answer
+endsIn t p =
+    if eqb (endingOf (t .count) p) DONE then answer DONE (writtenOf t p) else answer (endingOf (t .count) p) t
+
+-- The step where it is told whether the table is well formed. Where that is right it is stepOf; where a table is wrongly told to be
+-- well formed, its arrays are written as the plan says.
+unfoldable pub stepAs : Bool → Table → Event → Answer
+stepAs formed t e = endsIn t (planAs (formed && placed t) t e)

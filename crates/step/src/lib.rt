@@ -3,7 +3,7 @@
 ghost use mathlib.Core.Path.{_≡_};
 ghost use Rattle.rules.specs.Step.{stepOf};
 ghost use Rattle.table.specs.Formed.{wellFormed};
-ghost use Rattle.step.specs.Writes.{Sized, endingOf};
+ghost use Rattle.step.specs.Writes.{Sized, endingOf, stepAs};
 
 mod write;
 
@@ -37,25 +37,26 @@ fn ending(count: usize, p: Plan) -> u8
     numbers::DONE
 }
 
-// One step by any event, without the test of the table: formed says whether t is well formed. It gives the answer of step.
-// Only for proved callers, who have tested that or have a proof of it; for all others there is step.
+// One step by any event, without the test of the table: formed tells whether t is well formed. Told rightly it gives the answer of step.
 pub fn step_untested(t: Table, e: Event, formed: bool) -> Answer
-    requires { ⌜ formed ≡ wellFormed t ⌝ }
-    ensures { λ r. ⌜ r ≡ stepOf t e ⌝ }
+    ensures { λ r. ⌜ r ≡ stepAs formed t e ⌝ }
+    ensures { λ r. ⌜ (formed ≡ wellFormed t → r ≡ stepOf t e) ⌝ }
 {
     let p = plan::planned(t, e, formed);
     let count = t.count;
     let number = ending(count, p);
-    if number != numbers::DONE {
-        return Answer {
+    match number {
+        numbers::DONE => {
+            let after = written(t, p);
+            Answer {
+                number: numbers::DONE,
+                table: after,
+            }
+        }
+        1..=255 => Answer {
             number: number,
             table: t,
-        };
-    }
-    let after = written(t, p);
-    Answer {
-        number: numbers::DONE,
-        table: after,
+        },
     }
 }
 

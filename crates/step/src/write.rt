@@ -3,7 +3,7 @@ ghost use mathlib.Core.Path.{_≡_};
 ghost use Prim.Native.Nat.{_+_, _-_};
 ghost use lib.ListN.{take};
 ghost use Rattle.table.specs.Limits.{queueLimit};
-ghost use Rattle.step.specs.Writes.{Fits, Writes};
+ghost use Rattle.step.specs.Writes.{Fits, writtenOf};
 use act::PLACES;
 use plan::Plan;
 use table::Message;
@@ -37,7 +37,7 @@ fn later(a: usize, b: usize) -> usize
 // those behind close up, and what was sent follows. Only for step, which is proved: the plan fits the table and the wires.
 pub fn written(t: Table, p: Plan) -> Table
     requires { ⌜ Fits t p ⌝ }
-    ensures { λ r. ⌜ Writes t (p .me) (p .place) (p .gap) (p .done) r ⌝ }
+    ensures { λ r. ⌜ r ≡ writtenOf t p ⌝ }
 {
     let d = p.done;
     let gap = p.gap;

@@ -19,16 +19,16 @@ abbrev fresh : Table → ℕ → Bool
 fresh t c = ltb (roomAt t c .counter) wornLimit
 
 abbrev Inv-loop : tie.InvT-loop
-Inv-loop e t mode x room n i₀ i = (i ≤ n) × (allBelow i (fresh t) ≡ true)
+Inv-loop e t mode x room wanted held n i₀ i = (i ≤ n) × (allBelow i (fresh t) ≡ true)
 
 abbrev μ-loop : tie.MeasureT-loop
-μ-loop e t mode x room n i₀ i = n - i
+μ-loop e t mode x room wanted held n i₀ i = n - i
 
 refused-requires : tie.Need-refused-requires Inv-loop μ-loop
 refused-requires c κs = search needs
 
 returns : tie.Need-returns Inv-loop μ-loop
-returns c = refused-is _ _ 4 (λ q. omega arith) (⊎-elim (λ w. ask-below _ _ (search needs) (omega arith)) (λ w. ask-above _ _ (search needs) (omega arith)) (c .before .if1 .came)) _ (c .refused .ensures)
+returns c = refused-is _ _ true 4 (λ q. omega arith) (⊎-elim (λ w. ask-below _ _ (search needs) (omega arith)) (λ w. ask-above _ _ (search needs) (omega arith)) (c .before .if1 .came)) _ (c .refused .ensures)
 
 cast-x : tie.Need-cast-x Inv-loop μ-loop
 cast-x c = search needs
@@ -43,19 +43,19 @@ refused-requires-2 : tie.Need-refused-requires-2 Inv-loop μ-loop
 refused-requires-2 c κs = search needs
 
 returns-2 : tie.Need-returns-2 Inv-loop μ-loop
-returns-2 c = refused-is _ _ 5 (λ q. omega arith) (ask-waiting _ _ (search needs) (omega arith) (omega arith) (c .before .if3 .taken)) _ (c .refused2 .ensures)
+returns-2 c = refused-is _ _ true 5 (λ q. omega arith) (ask-waiting _ _ (search needs) (omega arith) (omega arith) (c .before .match .rest .1)) _ (c .refused2 .ensures)
 
 refused-requires-3 : tie.Need-refused-requires-3 Inv-loop μ-loop
 refused-requires-3 c κs = search needs
 
 returns-3 : tie.Need-returns-3 Inv-loop μ-loop
-returns-3 c = refused-is _ _ 6 (λ q. omega arith) (ask-held _ _ (search needs) (omega arith) (omega arith) (omega arith) (c .before .if4 .taken)) _ (c .refused3 .ensures)
+returns-3 c = refused-is _ _ true 6 (λ q. omega arith) (ask-held _ _ (search needs) (omega arith) (omega arith) (c .before .before .match .keys1) (c .before .match2 .rest .1)) _ (c .refused3 .ensures)
 
 refused-requires-4 : tie.Need-refused-requires-4 Inv-loop μ-loop
 refused-requires-4 c κs = search needs
 
 returns-4 : tie.Need-returns-4 Inv-loop μ-loop
-returns-4 c = refused-is _ _ 9 (λ q. omega arith) (ask-busy _ _ (search needs) (omega arith) (omega arith) (omega arith) (omega arith) (omega arith)) _ (c .refused4 .ensures)
+returns-4 c = refused-is _ _ true 9 (λ q. omega arith) (ask-busy _ _ (search needs) (omega arith) (omega arith) (c .before .before .before .match .keys1) (c .before .before .match2 .keys1) (omega arith)) _ (c .refused4 .ensures)
 
 cast-n : tie.Need-cast-n Inv-loop μ-loop
 cast-n c = search needs
@@ -75,10 +75,10 @@ refused-requires-5 c κs = search needs
 returns-5 : tie.Need-returns-5 Inv-loop μ-loop
 returns-5 c =
     let k = c .before .before .before .before .before .loop in
-    let s = c .before .before .before .before .before .before .before .before .before .before .before .before .before .before .before in
-    refused-is _ _ 10 (λ q. omega arith)
-    (ask-worn _ _ (s .pre) (c .before .before .before .before .before .before .before .before .before .before .before .before .before .before .if1 .left) (omega (arith, c .before .before .before .before .before .before .before .before .before .before .before .before .before .if2 .taken)) (c .before .before .before .before .before .before .before .before .before .if3 .left) (c .before .before .before .before .before .before .before .if4 .left) (c .before .before .before .before .before .before .if5 .left)
-    (all-fails (fresh (s .args .t1)) _ (k .i) (c .before .before .before .before .loop-test .taken) (le-ltb _ _ (c .before .if6 .taken)))) _ (c .refused5 .ensures)
+    let s = c .before .before .before .before .before .before .before .before .before .before .before .before .before in
+    refused-is _ _ true 10 (λ q. omega arith)
+    (ask-worn _ _ (s .pre) (c .before .before .before .before .before .before .before .before .before .before .before .before .if1 .left) (omega (arith, c .before .before .before .before .before .before .before .before .before .before .before .if2 .taken)) (c .before .before .before .before .before .before .before .before .match .keys1) (c .before .before .before .before .before .before .before .match2 .keys1) (c .before .before .before .before .before .before .if3 .left)
+    (all-fails (fresh (s .args .t1)) _ (k .i) (c .before .before .before .before .loop-test .taken) (le-ltb _ _ (c .before .if4 .taken)))) _ (c .refused5 .ensures)
 
 add-i : tie.Need-add-i Inv-loop μ-loop
 add-i c = search needs
@@ -89,7 +89,7 @@ loop-less c = search needs
 loop-again : tie.Need-loop-again Inv-loop μ-loop
 loop-again c =
     let k = c .before .before .before .before .loop in
-    (omega arith, all-more (fresh (c .before .before .before .before .before .before .before .before .before .before .before .before .before .before .args .t1)) (k .i) (k .inv .1) (lt-ltb _ _ (c .if6 .left)))
+    (omega arith, all-more (fresh (c .before .before .before .before .before .before .before .before .before .before .before .before .args .t1)) (k .i) (k .inv .1) (lt-ltb _ _ (c .if4 .left)))
 
 start-requires : tie.Need-start-requires Inv-loop μ-loop
 start-requires c κs = search needs
@@ -103,9 +103,9 @@ made-requires c κs = search needs
 returns-6 : tie.Need-returns-6 Inv-loop μ-loop
 returns-6 c =
     let k = c .before .before .before .before .before .loop in
-    let s = c .before .before .before .before .before .before .before .before .before .before .before .before .before .before .before in
+    let s = c .before .before .before .before .before .before .before .before .before .before .before .before .before in
     let all : k .i ≡ s .args .t1 .n = omega (arith, c .before .before .before .before .loop-test .left, k .inv .0) in
-    ask-is _ _ (s .pre) (ask-made _ _ (s .pre) (c .before .before .before .before .before .before .before .before .before .before .before .before .before .before .if1 .left) (omega (arith, c .before .before .before .before .before .before .before .before .before .before .before .before .before .if2 .taken)) (c .before .before .before .before .before .before .before .before .before .if3 .left) (c .before .before .before .before .before .before .before .if4 .left) (c .before .before .before .before .before .before .if5 .left) (rw all at (k .inv .1)))
+    ask-is _ _ (s .pre) (ask-made _ _ (s .pre) (c .before .before .before .before .before .before .before .before .before .before .before .before .if1 .left) (omega (arith, c .before .before .before .before .before .before .before .before .before .before .before .if2 .taken)) (c .before .before .before .before .before .before .before .before .match .keys1) (c .before .before .before .before .before .before .before .match2 .keys1) (c .before .before .before .before .before .before .if3 .left) (rw all at (k .inv .1)))
     _ (c .before .before .start .ensures) _ (c .before .ask .ensures) _ (c .made .ensures)
 
 pub ask-spec : {M : Type 1} → statement M

@@ -1,4 +1,5 @@
 use native.Mathlib.Omega.{arith}
+use mathlib.Core.Bool.{true}
 use Rattle.plan.proofs.Numbers.{refused-is, deliver-to, deliver-empty, deliver-is}
 use borrow.Author.Needs.{needs}
 use Rattle.plan.proofs.deliver.Statement.{statement}
@@ -8,7 +9,7 @@ refused-requires : tie.Need-refused-requires
 refused-requires c κs = search needs
 
 returns : tie.Need-returns
-returns c = refused-is _ _ 3 (λ q. omega arith) (search (needs, deliver-to)) _ (c .refused .ensures)
+returns c = refused-is _ _ true 3 (λ q. omega arith) (search (needs, deliver-to)) _ (c .refused .ensures)
 
 oldest-requires : tie.Need-oldest-requires
 oldest-requires c κs = search needs
@@ -23,7 +24,7 @@ refused-requires-2 : tie.Need-refused-requires-2
 refused-requires-2 c κs = search needs
 
 returns-2 : tie.Need-returns-2
-returns-2 c = refused-is _ _ 8 (λ q. omega arith) (deliver-empty _ _ (search needs) (omega arith) _ (c .before .before .before .oldest .ensures) (c .before .enum-told .given .1)) _ (c .refused2 .ensures)
+returns-2 c = refused-is _ _ true 8 (λ q. omega arith) (deliver-empty _ _ (search needs) (omega arith) _ (c .before .before .before .oldest .ensures) (c .before .enum-told .given .1)) _ (c .refused2 .ensures)
 
 cast-b : tie.Need-cast-b
 cast-b c = search needs

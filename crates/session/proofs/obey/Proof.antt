@@ -22,13 +22,19 @@ step-untested-requires : tie.Need-step-untested-requires
 step-untested-requires c κs = search needs
 
 returns : tie.Need-returns
-returns c = search (needs, obeyed-other)
+returns c =
+    let s = c .before .before .before .args in
+    obeyed-other (s .t) (s .formed) (s .c) _ (c .before .enum-told .given .1) (c .other .ensures)
 
 returns-2 : tie.Need-returns-2
-returns-2 c = search (needs, obeyed-fresh)
+returns-2 c =
+    let s = c .before .before .before .before .args in
+    obeyed-fresh (s .t) (s .formed) (s .c) _ _ (c .before .before .c .given .1) (c .begin .ensures)
 
 returns-3 : tie.Need-returns-3
-returns-3 c = search (needs, obeyed-make)
+returns-3 c =
+    let s = c .before .before .before .before .args in
+    obeyed-make (s .t) (s .formed) (s .c) _ _ (c .before .before .c2 .given .1) (c .step-untested .ensures .0) (c .step-untested .ensures .1)
 
 pub obey-spec : {M : Type 1} → statement M
 obey-spec =

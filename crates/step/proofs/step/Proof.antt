@@ -9,7 +9,7 @@ step-untested-requires : tie.Need-step-untested-requires
 step-untested-requires c κs = search needs
 
 returns : tie.Need-returns
-returns c = search needs
+returns c = c .step-untested .ensures .1 (c .before .well-formed .ensures)
 
 pub step-spec : {M : Type 1} → statement M
 step-spec = tie.close (tie.spec well-formed-requires step-untested-requires returns)

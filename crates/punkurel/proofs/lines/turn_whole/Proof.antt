@@ -22,7 +22,7 @@ same-length : tie.Need-same-length
 same-length c = search needs
 
 returns : tie.Need-returns
-returns c = search needs
+returns c = c .before .before .turn-known .ensures .1 (c .before .before .before .before .before .before .before .before .pre) .1
 
 pub turn-whole-spec : {M : Type 1} → statement M
 turn-whole-spec =

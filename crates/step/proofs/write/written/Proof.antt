@@ -111,7 +111,7 @@ returns c =
     let long = wires-long t (s .good .0) in
     let far = plan-out-long p (s .good .1 .0) in
     let k = c .before .loop in
-    written-is t (p .me) (p .place) (p .gap) (s .pre .takes) long (p .done) (omega arith) _ (k .i) (k .u) (k .inv .2) (omega arith) (omega arith) (omega arith) (c .before .before .before .before .shorter .ensures)
+    written-is t p (s .pre .takes) long (omega arith) (omega arith) _ (k .i) (k .u) (k .inv .2) (omega arith) (c .before .before .before .before .shorter .ensures)
 
 pub written-spec : {M : Type 1} → statement M
 written-spec =
