@@ -35,7 +35,7 @@ use Rattle.base.specs.Ranks.{rerooted}
 use Rattle.measure.specs.Way.{Leads}
 use Rattle.measure.specs.Measure.{potential}
 use Rattle.measure.specs.Heights.{leads-request-taken, leads-request-sent, leads-lend, leads-grant, leads-token, leads-reduce}
-use Rattle.measure.specs.Moves.{potential-joined, potential-request-taken, falls-sent-on}
+use Rattle.measure.specs.Moves.{potential-joined, falls-request-taken, falls-sent-on}
 use Rattle.measure.specs.Falls.{not-more-lend, falls-grant, falls-token, falls-reduce}
 use Rattle.safe.specs.Invariant.{Invariant}
 use Rattle.safe.specs.Heard.{taking, lent-owing}
@@ -78,7 +78,7 @@ module _ (n : ℕ) (rooms : ℕ → Room) (messages : List Wire) (me : ℕ) (roo
     leads-taken = leads-request-taken n old messages height leads k a me o m idle (at .low) (at .there)
 
     taken-less : potential n old queue kept 1 height < before
-    taken-less = omega (arith, potential-request-taken n old queue messages 0 height k a me o m idle at)
+    taken-less = falls-request-taken n old queue messages 0 height k a me o m idle at
 
     -- "it joins the end of the queue, then serve"
     joined-lower : Lower n rooms kept before (serve (join w o m))

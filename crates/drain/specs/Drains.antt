@@ -13,7 +13,6 @@ use Rattle.table.specs.Tables.{roomAt}
 use Rattle.rules.specs.declared.Event.{Event}
 use Rattle.rules.specs.Events.{isHandBack, isDeliver}
 use Rattle.rules.specs.Step.{stepOf}
-use Rattle.safe.specs.Reached.{Reached}
 
 -- "if nobody asks or upgrades any more": a delivery or a hand-back
 unfoldable pub isDraining : Event → Bool
@@ -49,15 +48,14 @@ unfoldable pub HeldOnTheWay : ℕ → ℕ → Table → List Event → Type 0
 HeldOnTheWay c m t [] = roomAt t c .held ≡ m
 HeldOnTheWay c m t (e ∷ es) = (roomAt t c .held ≡ m) ⊎ HeldOnTheWay c m (drainedBy t e) es
 
--- "whoever goes on as long as something can be accepted": a way to choose the next event, and the table after k of its choices
-unfoldable pub goesOn : (Table → Event) → ℕ → Table → Table
-goesOn choose zero t = t
-goesOn choose (suc k) t = goesOn choose k (drainedBy t (choose t))
+-- the first k events of a sequence
+unfoldable pub firsts : ℕ → (ℕ → Event) → List Event
+firsts zero next = []
+firsts (suc k) next = next zero ∷ firsts k (λ i. next (suc i))
 
--- it chooses a delivery or a hand-back that is accepted, unless none is
-abbrev pub Choosing : ℕ → (Table → Event) → Type 0
-Choosing n choose =
-    (t : Table) → Reached n t → Resting t ⊎ ((isDraining (choose t) ≡ true) × (stepOf t (choose t) .«number» ≡ DONE))
+-- these events go on from t as long as something can be accepted: after any number of them the next is made, unless none can be
+abbrev pub GoesOn : Table → (ℕ → Event) → Type 0
+GoesOn t next = (k : ℕ) → Resting (drained t (firsts k next)) ⊎ (isMade (drained t (firsts k next)) (next k) ≡ true)
 
 -- Demand 3, second half, of a table that events lead to
 pub record Drains (n : ℕ) (t : Table) : Type 0 where
@@ -65,6 +63,9 @@ pub record Drains (n : ℕ) (t : Table) : Type 0 where
   pub rests : (es : List Event) → Resting (drained t es) → (c : ℕ) → c < n → roomAt (drained t es) c .wanted ≡ 0
   pub given : (es : List Event) → Resting (drained t es) → (c : ℕ) → c < n → roomAt t c .wanted ≢ 0
       → HeldOnTheWay c (roomAt t c .wanted) t es
-  -- such an end is reached: by some deliveries and hand-backs, and by whoever goes on, within the bound
+  -- such an end is reached: by some deliveries and hand-backs
   pub ends : (es : List Event) × Resting (drained t es)
-  pub comes : (choose : Table → Event) → Choosing n choose → (k : ℕ) × (k ≤ bound t) × Resting (goesOn choose k t)
+  -- within the bound by whoever goes on, whatever each next event is
+  pub comes : (next : ℕ → Event) → GoesOn t next → (k : ℕ) × (k ≤ bound t) × Resting (drained t (firsts k next))
+  -- and one can go on
+  pub goes : (next : ℕ → Event) × GoesOn t next

@@ -18,7 +18,7 @@ runs-snoc t [] e = refl
 runs-snoc t (d ∷ es) e = runs-snoc (stepOf t d .table) es e
 
 module _ (n : ℕ) where
-  pub step-reached : (t : Table) → Reached n t → (e : Event) → Reached n (stepOf t e .table)
+  step-reached : (t : Table) → Reached n t → (e : Event) → Reached n (stepOf t e .table)
   step-reached t r e =
       record {
         some = r .some;
@@ -31,7 +31,7 @@ module _ (n : ℕ) where
   unfolding drainedBy
   drained-by-reached t r e = by-test (Reached n) (isDraining e) (stepOf t e .table) t (λ b. step-reached t r e) (λ b. r)
 
-  pub drained-reached : (t : Table) → Reached n t → (es : List Event) → Reached n (drained t es)
+  drained-reached : (t : Table) → Reached n t → (es : List Event) → Reached n (drained t es)
   unfolding drained
   drained-reached t r [] = r
   drained-reached t r (e ∷ es) = drained-reached (drainedBy t e) (drained-by-reached t r e) es

@@ -10,6 +10,7 @@ pub mod Rest
 pub mod Refused
 pub mod Further
 pub mod Ends
+pub mod Goes
 pub mod Gets
 pub mod Given
 pub mod Always

@@ -1,4 +1,4 @@
--- What a reached table can still do: at the start at most the bound, and less after each accepted delivery or hand-back.
+-- What a reached table can still do: at the start at most 2n² + 4n + m, and less after each accepted delivery or hand-back.
 use mathlib.Core.Path.{_≡_, subst}
 use mathlib.Core.Bool.{true}
 use Prim.Native.Nat.{ℕ, _+_, _*_, _≤_, _<_}
@@ -12,12 +12,11 @@ use Rattle.kept.specs.Start.{formed-of}
 use Rattle.facts.specs.Moments.{Formed}
 use Rattle.facts.specs.Accepted.{unrefused}
 use Rattle.measure.specs.Squeeze.{squeeze, squeeze-below, leads-squeezed}
-use Rattle.measure.specs.Bound.{potential-limit}
-use Rattle.measure.specs.Tight.{potential-tight}
+use Rattle.measure.specs.Bound.{potential-bound}
 use Rattle.safe.specs.Reached.{Reached}
 use Rattle.safe.specs.Step.{Safe, facts, messages-count}
 use Rattle.safe.specs.Always.{reached-safe, fresh-start}
-use Rattle.drain.specs.Drains.{isDraining, bound}
+use Rattle.drain.specs.Drains.{isDraining}
 use Rattle.drain.specs.Steps.{LeadsIn, weightOf, drains-lower}
 use Rattle.drain.specs.Ways.{Way, runs-way, fresh-way}
 
@@ -47,8 +46,8 @@ module _ (n : ℕ) (t : Table) (r : Reached n t) where
   formed : Formed (t .n) (roomAt t) (queueOf t) (messagesOf t)
   formed = formed-of (t .n) (roomAt t) (queueOf t) (messagesOf t) (safe .invariant .sound)
 
-  -- "at most 3n² + 8n + m"
-  pub pot-start : Pot t (bound t)
+  -- at the start it weighs at most 2n² + 4n + m
+  pub pot-start : Pot t (2 * (t .n * t .n) + 4 * t .n + t .count)
   pot-start =
       record {
         height = squeeze (t .n) (way .0);
@@ -56,19 +55,6 @@ module _ (n : ℕ) (t : Table) (r : Reached n t) where
         within = omega (
           arith,
           messages-count n t safe,
-          potential-limit (t .n) (facts n t safe .some) (roomAt t) (queueOf t) (messagesOf t) formed (squeeze (t .n) (way .0)) (squeeze-below (t .n) (way .0)),
-        );
-      }
-
-  -- and closer: at most 2n² + 5n + m
-  pub pot-tight : Pot t (2 * (t .n * t .n) + 5 * t .n + t .count)
-  pot-tight =
-      record {
-        height = squeeze (t .n) (way .0);
-        leads = low;
-        within = omega (
-          arith,
-          messages-count n t safe,
-          potential-tight (t .n) (facts n t safe .some) (roomAt t) (queueOf t) (messagesOf t) formed (squeeze (t .n) (way .0)) (squeeze-below (t .n) (way .0)),
+          potential-bound (t .n) (facts n t safe .some) (roomAt t) (queueOf t) (messagesOf t) formed (squeeze (t .n) (way .0)) (squeeze-below (t .n) (way .0)),
         );
       }

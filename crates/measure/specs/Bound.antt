@@ -1,32 +1,34 @@
--- How large the measure can be, with heights below n and nothing in hand.
+-- How large the measure can be with heights below n: 2n² + 4n and the number of messages.
 use mathlib.Core.Path.{_≡_, refl, ap}
 use mathlib.Core.Bool.{Bool, true, false}
 use mathlib.Core.List.{List, [], _∷_, List·Memᴰ·head, List·Memᴰ·tail}
 use Prim.Native.Nat.{ℕ, _+_, _*_, _-_, _≤_, _<_}
-use native.Mathlib.Nat.{mul-one, mul-add, add-mul, mul-left-comm, mul-le-mul-right}
+use native.Mathlib.Nat.{mul-add, add-mul, mul-left-comm, mul-le-mul-right}
 use native.Mathlib.Omega.{arith}
-use lib.Dec.{ltb}
+use lib.Dec.{eqb, ltb}
 use lib.ListN.{length}
-use Rattle.base.specs.Sums.{one, sum-le, sum-add, sum-bound, countBelow, count-below-le}
+use borrow.Author.Tests.{eqb-true}
+use Rattle.base.specs.Choice.{split}
+use Rattle.base.specs.Sums.{one, one-le, sum-le, sum-add, sum-bound, countBelow}
 use Rattle.base.specs.Lists.{total, count, Mem}
 use Rattle.room.specs.declared.Room.{Room}
 use Rattle.table.specs.declared.Wire.{Wire}
 use Rattle.table.specs.declared.Queued.{Queued}
 use Rattle.table.specs.declared.Message.{Message}
 use Rattle.table.specs.declared.Message.the-variants as msg
-use Rattle.table.specs.Formed.{isToken}
+use Rattle.table.specs.Formed.{isToken, due, names}
 use Rattle.facts.specs.Moments.{Formed}
-use Rattle.facts.specs.Names.{isNaming, names-bound}
+use Rattle.facts.specs.Names.{isNaming, names-sum}
 use Rattle.bounds.specs.Bounds.{level, isRequest}
 use Rattle.bounds.specs.Weights.{requests, level-le}
 use Rattle.measure.specs.Measure.{pending, tokensIn, charge, follow, holdWeight, above, extra, pile, nothing, own, load, potential}
 
 -- how many messages name a room
-abbrev pub naming : List Wire → ℕ
+abbrev naming : List Wire → ℕ
 naming messages = count (λ w. isNaming (w .message)) messages
 
 -- how many rooms hold
-abbrev pub holding : ℕ → (ℕ → Room) → ℕ
+abbrev holding : ℕ → (ℕ → Room) → ℕ
 holding n rooms = countBelow n (λ c. ltb 0 (rooms c .held))
 
 -- a REQUEST and a TOKEN name rooms
@@ -69,29 +71,45 @@ pile-most height share flag cap behind (w ∷ l) h = omega (
     most true = omega (arith, h w (List·Memᴰ·head refl))
     most false = omega (arith, h w (List·Memᴰ·head refl))
 
--- the largest cost of a REQUEST, n times
-square : (n : ℕ) → 1 ≤ n → n * (2 * n - 1) + n ≡ 2 * (n * n)
+-- the largest cost of a REQUEST but for 1, n times
+square : (n : ℕ) → 1 ≤ n → n * (2 * n - 2) + 2 * n ≡ 2 * (n * n)
 square n some = omega (
   arith,
-  mul-add n (2 * n - 1) 1,
-  mul-one n,
+  mul-add n (2 * n - 2) 2,
   ap (λ (k : ℕ). n * k) whole,
   mul-left-comm n 2 n,
 )
   where
-    whole : 2 * n - 1 + 1 ≡ 2 * n
+    whole : 2 * n - 2 + 2 ≡ 2 * n
     whole = omega arith
+
+-- a room that holds waits for nothing, but perhaps an upgrade
+idle-held : (r : Room) → one (ltb 0 (due r)) + one (ltb 0 (r .held)) ≤ 1
+unfolding due
+idle-held r =
+    split (eqb (r .held) 0)
+    (λ e. omega (arith, one-le (ltb 0 (due r)), ap (λ (h : ℕ). one (ltb 0 h)) (eqb-true (r .held) 0 e)))
+    (λ e. rw e (omega (arith, one-le (ltb 0 (r .held)))))
 
 module _ (n : ℕ) (some : 1 ≤ n) (rooms : ℕ → Room) (queue : List Queued) (messages : List Wire) (f : Formed n rooms queue messages)
     (height : ℕ → ℕ) (below : (c : ℕ) → c < n → height c < n) where
-  -- by the names and the rooms that hold
-  pub potential-within : potential n rooms queue messages 0 height + n
-      ≤ 2 * (n * n) + 4 * (length queue + naming messages) + holding n rooms + 2 * n + length messages
-  unfolding potential load own
-  potential-within = omega (
+  -- so the names and the rooms that hold are at most n together
+  names-holding : length queue + naming messages + holding n rooms ≤ n
+  names-holding = omega (
     arith,
-    pile-most height (1 + pending queue messages 0) (tokensIn messages) (2 * n - 1) nothing messages most,
-    mul-le-mul-right (2 * n - 1) few,
+    names-sum n rooms queue messages f,
+    sum-add n (names queue messages) (λ c. one (ltb 0 (rooms c .held))),
+    sum-bound n 1 (λ c. names queue messages c + one (ltb 0 (rooms c .held))) (λ c h. omega (arith, f .named c h, idle-held (rooms c))),
+  )
+
+  -- with nothing in hand
+  pub potential-bound : potential n rooms queue messages 0 height ≤ 2 * (n * n) + 4 * n + length messages
+  unfolding potential load own
+  potential-bound = omega (
+    arith,
+    names-holding,
+    pile-most height (pending queue messages 0) (tokensIn messages) (2 * n - 2) nothing messages most,
+    mul-le-mul-right (2 * n - 2) few,
     square n some,
     kinds-all messages,
     sum-add n (λ c. holdWeight * one (ltb 0 (rooms c .held))) (λ c. level (rooms c .credit)),
@@ -99,23 +117,8 @@ module _ (n : ℕ) (some : 1 ≤ n) (rooms : ℕ → Room) (queue : List Queued)
     sum-bound n 2 (λ c. level (rooms c .credit)) (λ c h. level-le (rooms c .credit)),
   )
     where
-      names : length queue + naming messages ≤ n
-      names = names-bound n rooms queue messages f
-
       few : requests messages ≤ n
-      few = omega (arith, kinds-all messages, names)
+      few = omega (arith, kinds-all messages, names-holding)
 
-      most : (w : Wire) → Mem w messages → 1 + pending queue messages 0 + (height (w .to) + tokensIn messages) ≤ 2 * n - 1 + 1
-      most w i = omega (arith, names, kinds-all messages, below (w .to) (f .message w i .to-low))
-
-  pub potential-bound : potential n rooms queue messages 0 height ≤ 2 * (n * n) + 6 * n + length messages
-  potential-bound = omega (
-    arith,
-    potential-within,
-    names-bound n rooms queue messages f,
-    count-below-le n (λ c. ltb 0 (rooms c .held)),
-  )
-
-  -- "3n² + 8n + m"
-  pub potential-limit : potential n rooms queue messages 0 height ≤ 3 * (n * n) + 8 * n + length messages
-  potential-limit = omega (arith, potential-bound)
+      most : (w : Wire) → Mem w messages → pending queue messages 0 + (height (w .to) + tokensIn messages) ≤ 2 * n - 2 + 1
+      most w i = omega (arith, names-holding, kinds-all messages, below (w .to) (f .message w i .to-low))

@@ -86,7 +86,7 @@ module _ (n : ℕ) (old new : ℕ → Room) (messages : List Wire) (me : ℕ) (l
   not-more-lend y m here = omega (
     arith,
     sent-at y (msg.Grant m (nextLink (old me .counter))) flag refl (omega arith),
-    pile-sent height (1 + names) flag nothing messages (wire me y (msg.Grant m (nextLink (old me .counter)))),
+    pile-sent height names flag nothing messages (wire me y (msg.Grant m (nextLink (old me .counter)))),
     potential-dropped n old queue messages hand height,
     rooms-differ,
     ap own here,
@@ -100,8 +100,8 @@ module _ (n : ℕ) (old new : ℕ → Room) (messages : List Wire) (me : ℕ) (l
   not-more-pass y m here = omega (
     arith,
     sent-at y (msg.Token m (remaining (old me) y) (nextLink (old me .counter))) (flag + 1) refl refl,
-    pile-sent height (1 + names) (flag + 1) nothing messages (wire me y (msg.Token m (remaining (old me) y) (nextLink (old me .counter)))),
-    pile-flag height (1 + names) flag nothing messages,
+    pile-sent height names (flag + 1) nothing messages (wire me y (msg.Token m (remaining (old me) y) (nextLink (old me .counter)))),
+    pile-flag height names flag nothing messages,
     potential-dropped n old queue messages hand height,
     rooms-differ,
     level-le (new me .credit),
@@ -117,7 +117,7 @@ module _ (n : ℕ) (old new : ℕ → Room) (messages : List Wire) (me : ℕ) (l
   not-more-settle small weaker here = omega (
     arith,
     sent-at (old me .lender) (msg.Reduce (old me .link) (owned (old me))) flag refl (omega arith),
-    pile-sent height (1 + names) flag nothing messages (wire me (old me .lender) (msg.Reduce (old me .link) (owned (old me)))),
+    pile-sent height names flag nothing messages (wire me (old me .lender) (msg.Reduce (old me .link) (owned (old me)))),
     rooms-differ,
     ap own here,
     credited-either (old me) (owned (old me)) (λ (r : Room). own r ≡ holdWeight * one (ltb 0 (old me .held)) + level (owned (old me))) refl refl,
@@ -136,9 +136,9 @@ module _ (n : ℕ) (old new : ℕ → Room) (messages : List Wire) (me : ℕ) (l
     potential-at n new queue (remove k messages ++ leavingSent me (old me) a) hand height names flag
         (omega (arith, requests-leaving (remove k messages) me (old me) a, requests-taken messages k a me (msg.Grant m l) (oldest .low) (oldest .there)))
         (omega (arith, tokens-leaving (remove k messages) me (old me) a, tokens-taken messages k a me (msg.Grant m l) (oldest .low) (oldest .there))),
-    pile-append height (1 + names) flag nothing (remove k messages) (leavingSent me (old me) a),
-    leaving-paid height (1 + names) flag (folds follow nothing (remove k messages)) me (old me) a free,
-    pile-taken height (1 + names) flag messages nothing k a me (msg.Grant m l) (oldest .low) (oldest .there) refl refl (oldest .first),
+    pile-append height names flag nothing (remove k messages) (leavingSent me (old me) a),
+    leaving-paid height names flag (folds follow nothing (remove k messages)) me (old me) a free,
+    pile-taken height names flag messages nothing k a me (msg.Grant m l) (oldest .low) (oldest .there) refl refl (oldest .first),
     rooms-differ,
     ap own here,
     one-le (ltb 0 m),
@@ -157,9 +157,9 @@ module _ (n : ℕ) (old new : ℕ → Room) (messages : List Wire) (me : ℕ) (l
         (omega (arith, requests-leaving (remove k messages) me (old me) a, requests-taken messages k a me (msg.Token m rest l) (oldest .low) (oldest .there)))
         (omega (arith, tokens-leaving (remove k messages) me (old me) a, only)),
     potential-at n old queue messages hand height names 1 refl (omega (arith, only)),
-    pile-append (rerooted me height) (1 + names) 0 nothing (remove k messages) (leavingSent me (old me) a),
-    leaving-paid (rerooted me height) (1 + names) 0 (folds follow nothing (remove k messages)) me (old me) a free,
-    pile-token-taken height (1 + names) me messages nothing k a m rest l (oldest .low) (oldest .there),
+    pile-append (rerooted me height) names 0 nothing (remove k messages) (leavingSent me (old me) a),
+    leaving-paid (rerooted me height) names 0 (folds follow nothing (remove k messages)) me (old me) a free,
+    pile-token-taken height names me messages nothing k a m rest l (oldest .low) (oldest .there),
     rooms-differ,
     ap own here,
     one-le (ltb 0 m),
@@ -177,7 +177,7 @@ module _ (n : ℕ) (old new : ℕ → Room) (messages : List Wire) (me : ℕ) (l
     potential-at n new queue (remove k messages) hand height names flag
         (omega (arith, requests-taken messages k a me (msg.Reduce l m) (oldest .low) (oldest .there)))
         (omega (arith, tokens-taken messages k a me (msg.Reduce l m) (oldest .low) (oldest .there))),
-    pile-taken height (1 + names) flag messages nothing k a me (msg.Reduce l m) (oldest .low) (oldest .there) refl refl (oldest .first),
+    pile-taken height names flag messages nothing k a me (msg.Reduce l m) (oldest .low) (oldest .there) refl refl (oldest .first),
     rooms-differ,
     ap own here,
     reduced-either (old me) a l m (λ (r : Room). own r ≡ own (old me)) refl refl,

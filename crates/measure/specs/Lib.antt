@@ -9,4 +9,3 @@ pub mod Loads
 pub mod Moves
 pub mod Falls
 pub mod Bound
-pub mod Tight

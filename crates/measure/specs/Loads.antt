@@ -36,15 +36,11 @@ unfolding potential load
 potential-dropped n rooms queue messages hand height = omega (
   arith,
   potential-at n rooms queue messages (hand + 1) height (names + 1) (tokensIn messages) (omega arith) refl,
-  ap (λ (s : ℕ). pile height s (tokensIn messages) nothing messages) share,
-  pile-share height (1 + names) (tokensIn messages) nothing messages,
+  pile-share height names (tokensIn messages) nothing messages,
 )
   where
     names : ℕ
     names = pending queue messages hand
-
-    share : 1 + (names + 1) ≡ 1 + names + 1
-    share = omega arith
 
 -- TOKENs under way: one message more, one less, and what goes to an old lender
 module _ (l : List Wire) where

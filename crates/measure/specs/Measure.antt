@@ -77,7 +77,7 @@ own r = holdWeight * one (ltb 0 (r .held)) + level (r .credit)
 
 -- all with so many names waiting and so many TOKENs under way
 unfoldable pub load : ℕ → (ℕ → Room) → List Wire → (ℕ → ℕ) → ℕ → ℕ → ℕ
-load n rooms messages height names flag = pile height (1 + names) flag nothing messages + nameWeight * names + sum n (λ c. own (rooms c))
+load n rooms messages height names flag = pile height names flag nothing messages + nameWeight * names + sum n (λ c. own (rooms c))
 
 unfoldable pub potential : ℕ → (ℕ → Room) → List Queued → List Wire → ℕ → (ℕ → ℕ) → ℕ
 potential n rooms queue messages hand height = load n rooms messages height (pending queue messages hand) (tokensIn messages)

@@ -80,15 +80,19 @@ module _ (n : ℕ) (rooms : ℕ → Room) (queue : List Queued) (messages : List
     tokens-same = omega (arith, tokens-taken messages k a b (msg.Request o m idle) (oldest .low) (oldest .there))
 
     -- it costs its share no more, nor what came on top
-    pub potential-request-taken : potential n rooms queue (remove k messages) (hand + 1) height
-        + (1 + pending queue messages hand + height b + tokensIn messages) ≡ potential n rooms queue messages hand height
+    potential-request-taken : potential n rooms queue (remove k messages) (hand + 1) height
+        + (pending queue messages hand + height b + tokensIn messages) ≡ potential n rooms queue messages hand height
     unfolding potential load charge isToken above
     potential-request-taken = omega (
       arith,
       potential-at n rooms queue (remove k messages) (hand + 1) height (pending queue messages hand) (tokensIn messages) pending-taken tokens-same,
-      pile-taken height (1 + pending queue messages hand) (tokensIn messages) messages nothing k a b (msg.Request o m idle) (oldest .low)
+      pile-taken height (pending queue messages hand) (tokensIn messages) messages nothing k a b (msg.Request o m idle) (oldest .low)
           (oldest .there) refl refl (oldest .first),
     )
+
+    -- its share counts its own name
+    pub falls-request-taken : potential n rooms queue (remove k messages) (hand + 1) height < potential n rooms queue messages hand height
+    falls-request-taken = omega (arith, potential-request-taken, pending-taken)
 
   -- A REQUEST in hand at b, a room without the token, is sent on to where b looks.
   module _ (b o m : ℕ) (idle : Bool) (low : b < n) (without : rooms b .token ≡ false) (leads : Leads n rooms messages height)
@@ -98,7 +102,7 @@ module _ (n : ℕ) (rooms : ℕ → Room) (queue : List Queued) (messages : List
 
     -- to a lower room; or behind the TOKEN that b has sent
     pub potential-request-sent : potential n rooms queue (messages ++ (wire b (rooms b .toward) (msg.Request o m idle) ∷ [])) hand height + 1
-        ≤ potential n rooms queue messages (hand + 1) height + (1 + pending queue messages (hand + 1) + height b + tokensIn messages)
+        ≤ potential n rooms queue messages (hand + 1) height + (pending queue messages (hand + 1) + height b + tokensIn messages)
     unfolding potential load charge isToken isRequest above
     potential-request-sent = split (folds follow nothing messages sent) behind ahead
       where
@@ -111,7 +115,7 @@ module _ (n : ℕ) (rooms : ℕ → Room) (queue : List Queued) (messages : List
         Lower : Type 0
         Lower =
             potential n rooms queue (messages ++ (sent ∷ [])) hand height + 1
-            ≤ potential n rooms queue messages (hand + 1) height + (1 + pending queue messages (hand + 1) + height b + tokensIn messages)
+            ≤ potential n rooms queue messages (hand + 1) height + (pending queue messages (hand + 1) + height b + tokensIn messages)
 
         now : potential n rooms queue (messages ++ (sent ∷ [])) hand height ≡ load n rooms (messages ++ (sent ∷ [])) height names flag
         now =
@@ -122,8 +126,8 @@ module _ (n : ℕ) (rooms : ℕ → Room) (queue : List Queued) (messages : List
         cost : ℕ
         cost = extra height flag (folds follow nothing messages) sent
 
-        weighed : pile height (1 + names) flag nothing (messages ++ (sent ∷ [])) ≡ pile height (1 + names) flag nothing messages + (1 + names + cost)
-        weighed = pile-sent height (1 + names) flag nothing messages sent
+        weighed : pile height names flag nothing (messages ++ (sent ∷ [])) ≡ pile height names flag nothing messages + (names + cost)
+        weighed = pile-sent height names flag nothing messages sent
 
         behind : folds follow nothing messages sent ≡ true → Lower
         behind e =

@@ -108,12 +108,17 @@ module _ (height : ℕ → ℕ) (share me : ℕ) where
 
   extra-lowered : (less more : Wire → Bool) (w : Wire) → Freed less more → extra (rerooted me height) 0 less w ≤ extra height 1 more w
   unfolding above
-  extra-lowered less more w freed = split (less w) (λ e. rw e (omega arith)) (λ e. rw e (go e (more w) refl))
+  extra-lowered less more w freed = go (less w) (more w) refl refl
     where
-      go : less w ≡ false → (b : Bool) → more w ≡ b → above false (rerooted me height (w .to)) 0 ≤ above b (height (w .to)) 1
-      go e true q =
-          ⊎-elim (λ h. clash h e) (λ h. omega (arith, ap (λ (c : ℕ). rerooted me height c) h, rerooted-here me height)) (freed w q)
-      go e false q = omega (arith, rerooted-le me height (w .to))
+      low : rerooted me height (w .to) ≤ height (w .to) + 1
+      low = rerooted-le me height (w .to)
+
+      go : (a b : Bool) → less w ≡ a → more w ≡ b → above a (rerooted me height (w .to)) 0 ≤ above b (height (w .to)) 1
+      go true true p q = omega (arith, low)
+      go true false p q = omega (arith, low)
+      go false true p q =
+          ⊎-elim (λ h. clash h p) (λ h. omega (arith, ap (λ (c : ℕ). rerooted me height c) h, rerooted-here me height)) (freed w q)
+      go false false p q = omega (arith, low)
 
   freed-follow : (less more : Wire → Bool) (w : Wire) → Freed less more → Freed (follow less w) (follow more w)
   freed-follow less more w freed v h =

@@ -1,4 +1,4 @@
--- WAY: following toward from room to room comes nearer to the token, as a height of each room says.
+-- Following toward from room to room comes nearer to the token, as a height of each room says.
 use mathlib.Core.Path.{_≡_}
 use mathlib.Core.Bool.{false, _&&_}
 use mathlib.Core.List.{List}
@@ -13,12 +13,7 @@ use Rattle.table.specs.Formed.{isToken}
 unfoldable pub passing : ℕ → List Wire → ℕ
 passing c messages = count (λ w. isToken (w .message) && eqb (w .«from») c) messages
 
--- a room is higher than the one that it looks toward, unless it has the token or is the sender of a TOKEN under way
+-- WAY: a room is higher than the one that it looks toward, unless it has the token or is the sender of a TOKEN under way
 abbrev pub Leads : ℕ → (ℕ → Room) → List Wire → (ℕ → ℕ) → Type 0
 Leads n rooms messages height =
     (c : ℕ) → c < n → rooms c .token ≡ false → passing c messages ≡ 0 → height (rooms c .toward) < height c
-
--- WAY
-pub record Way (n : ℕ) (rooms : ℕ → Room) (messages : List Wire) : Type 0 where
-  pub height : ℕ → ℕ
-  pub leads : Leads n rooms messages height

@@ -1,7 +1,8 @@
--- A REQUEST that is sent back to its origin goes round for ever: its drain has no bound.
-use Prim.Native.Nat.{ℕ, zero, suc, _+_, _*_}
+-- A REQUEST that is sent back to its origin goes to and fro, and more deliveries are accepted than demand 3 allows.
+use Prim.Native.Nat.{ℕ, zero, suc, _+_, _<_}
 use mathlib.Core.Path.{_≡_, refl}
 use mathlib.Core.List.{List, [], _∷_}
+use native.Mathlib.Omega.{arith}
 use lib.Dec.{eqb}
 use Rattle.base.specs.Sums.{one}
 use Rattle.base.specs.Lists.{remove}
@@ -20,6 +21,7 @@ use Rattle.rules.specs.Work.{send, join, sendOut}
 use Rattle.rules.specs.Rules.{hold, want, lend, pass, settle, upgradeWaits, upgraded, serveQueue, serve, isEmpty, askWith, askWithout, ask, upgrade}
 use Rattle.rules.specs.Refusals.{first, isFound, anyWorn, refusals}
 use Rattle.rules.specs.Step.{after, outcome}
+use Rattle.drain.specs.Drains.{bound}
 use Rattle.twelve.specs.Twelve.{asks, delivers}
 use Rattle.variants.specs.Step.{Rules, deliveredBy, madeBy, stepBy, runsBy}
 use Rattle.stalls.specs.Habits.{circling, settleOrServeBy, handBackBy, takeRequestBy, receiveBy, rulesBy}
@@ -37,11 +39,16 @@ unfoldable pub acceptedBy : Rules → Table → List Event → ℕ
 acceptedBy r t [] = 0
 acceptedBy r t (e ∷ es) = one (eqb (stepBy r t e .«number») DONE) + acceptedBy r (stepBy r t e .table) es
 
--- "at most 3n² + 8n + m further steps are accepted" fails for a REQUEST that goes round in a circle: of 54 deliveries none is refused, and the bound is 52
-pub circle-bound : 3 * (begun .n * begun .n) + 8 * begun .n + begun .count ≡ 52
+-- demand 3 allows 52
+circle-bound : bound begun ≡ 52
 unfolding runsBy freshTable stepBy madeBy deliveredBy outcome after first isFound anyWorn oldestOf oldestIn takeRequestBy receiveBy settleOrServeBy handBackBy ask askWith askWithout upgrade upgraded upgradeWaits serveQueue serve settle lend pass hold want isEmpty send join sendOut nextLink isWorn lentTo lent left remaining passedTo passed credited settled leaving granted lifted tokenedBy tokened reduced entryOf larger strongest owned hasNoEntries agrees isStronger canLend remove padded refusals
 circle-bound = refl
 
-pub in-a-circle : acceptedBy (rulesBy circling) begun (rounds 27) ≡ 54
+-- and of 54 none is refused
+circle-accepted : acceptedBy (rulesBy circling) begun (rounds 27) ≡ 54
 unfolding runsBy freshTable stepBy madeBy deliveredBy outcome after first isFound anyWorn oldestOf oldestIn takeRequestBy receiveBy settleOrServeBy handBackBy ask askWith askWithout upgrade upgraded upgradeWaits serveQueue serve settle lend pass hold want isEmpty send join sendOut nextLink isWorn lentTo lent left remaining passedTo passed credited settled leaving granted lifted tokenedBy tokened reduced entryOf larger strongest owned hasNoEntries agrees isStronger canLend remove padded refusals acceptedBy rounds
-in-a-circle = refl
+circle-accepted = refl
+
+-- "at most 3n² + 8n + m further steps are accepted" fails
+pub in-a-circle : bound begun < acceptedBy (rulesBy circling) begun (rounds 27)
+in-a-circle = omega (arith, circle-bound, circle-accepted)

@@ -1,4 +1,4 @@
--- What such rules lead to from a fresh table: a drain that stops with a room waiting, or one that goes on past every bound.
+-- What never serving and forgetting lead to from a fresh table: a drain that stops with a room waiting.
 use mathlib.Core.Path.{_≡_, refl}
 use mathlib.Core.Bool.{true, false}
 use mathlib.Core.List.{[], _∷_}

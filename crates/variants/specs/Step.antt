@@ -1,4 +1,5 @@
--- The step with its rules left open. The test of well-formedness is left out: no table that the rules lead to from a fresh one fails it.
+-- The step with its rules left open, and without the test of well-formedness. With document 01's rules no table that events lead to from a
+-- fresh one fails it; with other rules a table may fail it, and is worked on all the same.
 use Prim.Native.Nat.{ℕ}
 use mathlib.Core.List.{List, [], _∷_}
 use lib.Dec.{eqb}
