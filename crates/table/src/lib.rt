@@ -42,7 +42,10 @@ pub const NO_WIRE: Wire = Wire {
     message: Message::Nothing,
 };
 
-pub const NO_QUEUED: Queued = Queued { room: 0, mode: 0 };
+pub const NO_QUEUED: Queued = Queued {
+    room: 0,
+    mode: modes::NONE,
+};
 
 pub struct Table {
     pub n: u8,
