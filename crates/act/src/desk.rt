@@ -93,7 +93,7 @@ pub fn hold(mut d: Desk, m: u8) -> Desk
     ensures { λ r. ⌜ Stays d r (rules.hold (workOf d) m) ⌝ }
 {
     d.room.held = m;
-    d.room.wanted = 0;
+    d.room.wanted = modes::NONE;
     d
 }
 

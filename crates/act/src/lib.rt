@@ -10,6 +10,8 @@ mod desk;
 use desk::Desk;
 use room::Room;
 use table::Message;
+use table::NO_QUEUED;
+use table::NO_WIRE;
 use table::QUEUE;
 use table::Queued;
 use table::Wire;
@@ -41,12 +43,7 @@ pub struct Done {
 fn lay_out(s: Start) -> Desk
     ensures { λ r. ⌜ Lays s r ⌝ }
 {
-    let nothing = Wire {
-        from: 0,
-        to: 0,
-        message: Message::Nothing,
-    };
-    let mut queue = [Queued { room: 0, mode: 0 }; PLACES];
+    let mut queue = [NO_QUEUED; PLACES];
     let mut i: usize = 0;
     while i < QUEUE {
         let q = s.queue[i];
@@ -61,7 +58,7 @@ fn lay_out(s: Start) -> Desk
         queue: queue,
         first: 0,
         last: last,
-        out: [nothing; OUTBOX],
+        out: [NO_WIRE; OUTBOX],
         sent: 0,
         worn: false,
     }
@@ -74,7 +71,7 @@ fn tidy(d: Desk) -> Done
 {
     let first = d.first;
     let last = d.last;
-    let mut queue = [Queued { room: 0, mode: 0 }; PLACES];
+    let mut queue = [NO_QUEUED; PLACES];
     let mut i = first;
     while i < last {
         let q = d.queue[i];

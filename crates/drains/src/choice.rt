@@ -5,12 +5,13 @@ use room::ROOMS;
 use rules::Event;
 use table::Table;
 use table::WIRES;
+use table::Wire;
 
 // The orders of a drain. The oldest message first, and hand-backs when there is none.
 const OLDEST: usize = 0;
 // Hand-backs first, then the wire of the newest message.
 const NEWEST: usize = 1;
-// The wire of the oldest message last, and hand-backs when there is no message.
+// One wire starved to the end: the other wires first, then hand-backs, and it when neither is left.
 const STARVED: usize = 2;
 // Some message or a hand-back.
 const RANDOM: usize = 3;
@@ -21,17 +22,25 @@ pub const MIXED: usize = 4;
 
 pub const ASKS: usize = 5;
 
-// The delivery on the wire of the message at a place; one that is refused where there is no message.
-fn delivery(t: Table, place: usize) -> Event {
+// The message at a place; nothing where there is none.
+fn message_at(t: Table, place: usize) -> Wire {
     let at = place % WIRES;
-    let from = t.wires[at].from;
-    let to = t.wires[at].to;
+    t.wires[at]
+}
+
+// The delivery on the wire of a message; one that is refused where there is no message.
+fn delivery(w: Wire) -> Event {
     Event {
         kind: rules::DELIVER,
-        room: from,
-        other: to,
+        room: w.from,
+        other: w.to,
         mode: 0,
     }
+}
+
+// Whether two messages are on one wire.
+fn on_one_wire(a: Wire, b: Wire) -> bool {
+    a.from == b.from && a.to == b.to
 }
 
 // An event of a session: of eight that are mixed two ask, one upgrades, two hand back, and three deliver some message.
@@ -45,7 +54,7 @@ fn mixed(t: Table, order: usize, r: usize) -> Event {
         0..=1 => rules::ASK,
         2 => rules::UPGRADE,
         3..=4 => rules::HANDBACK,
-        _ => return delivery(t, below(t.count, rest)),
+        _ => return delivery(message_at(t, below(t.count, rest))),
     };
     Event {
         kind: kind,
@@ -55,20 +64,16 @@ fn mixed(t: Table, order: usize, r: usize) -> Event {
     }
 }
 
-// The place of the oldest message that is on another wire than the oldest of all; that one's, where there is no other.
-fn other_wire(t: Table) -> usize {
-    let from = t.wires[0].from;
-    let to = t.wires[0].to;
+// The place of the oldest message that is on another wire than this one; the oldest of all, where there is none.
+fn other_wire(t: Table, starved: Wire) -> usize {
     let count = t.count;
-    let mut i: usize = 1;
+    let mut i: usize = 0;
     while i < WIRES {
         if i >= count {
             return 0;
         }
-        if t.wires[i].from != from {
-            return i;
-        }
-        if t.wires[i].to != to {
+        let w = t.wires[i];
+        if !on_one_wire(w, starved) {
             return i;
         }
         i += 1;
@@ -77,7 +82,7 @@ fn other_wire(t: Table) -> usize {
 }
 
 // The place of the message whose wire is next.
-fn place(t: Table, order: usize, r: usize) -> usize {
+fn place(t: Table, order: usize, r: usize, starved: Wire) -> usize {
     let count = t.count;
     match order {
         OLDEST => 0,
@@ -87,7 +92,7 @@ fn place(t: Table, order: usize, r: usize) -> usize {
             }
             count - 1
         }
-        STARVED => other_wire(t),
+        STARVED => other_wire(t, starved),
         _ => below(count, r / 2),
     }
 }
@@ -111,7 +116,8 @@ pub fn first_room(t: Table, waiting: bool) -> usize {
 }
 
 // Whether a hand-back of room c, if there is such a room, is next, and not one of so many messages.
-fn hands_back(order: usize, r: usize, c: usize, count: usize) -> bool {
+// Where a wire is starved, it is next once only that wire has messages.
+fn hands_back(order: usize, r: usize, c: usize, count: usize, on_starved: bool) -> bool {
     if count == 0 {
         return true;
     }
@@ -120,18 +126,20 @@ fn hands_back(order: usize, r: usize, c: usize, count: usize) -> bool {
     }
     match order {
         NEWEST => true,
+        STARVED => on_starved,
         RANDOM => r % 2 == 0,
         _ => false,
     }
 }
 
 // What comes next. In a drain it is refused where no message is under way and no room holds without waiting.
-pub fn next(t: Table, order: usize, r: usize) -> Event {
+pub fn next(t: Table, order: usize, r: usize, starved: Wire) -> Event {
     if order >= MIXED {
         return mixed(t, order, r);
     }
     let c = first_room(t, false);
-    if hands_back(order, r, c, t.count) {
+    let w = message_at(t, place(t, order, r, starved));
+    if hands_back(order, r, c, t.count, on_one_wire(w, starved)) {
         return Event {
             kind: rules::HANDBACK,
             room: byte(c),
@@ -139,5 +147,5 @@ pub fn next(t: Table, order: usize, r: usize) -> Event {
             mode: 0,
         };
     }
-    delivery(t, place(t, order, r))
+    delivery(w)
 }

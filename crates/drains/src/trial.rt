@@ -27,13 +27,15 @@ pub struct Trial {
 }
 
 // The table after so many events, refused ones among them, and their number; a drain ends at the first that is refused.
+// The wire of the oldest message at the start is the one that a drain may starve.
 fn made(start: Table, order: usize, seed: usize, events: usize) -> Drained {
+    let starved = start.wires[0];
     let mut t = start;
     let mut r = seed;
     let mut i: usize = 0;
     while i < events {
         r = numbers::after(r);
-        let a = step::step(t, choice::next(t, order, r));
+        let a = step::step(t, choice::next(t, order, r, starved));
         t = a.table;
         if a.number != DONE {
             if order < ORDERS {

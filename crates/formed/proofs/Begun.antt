@@ -12,7 +12,9 @@ use Rattle.base.specs.Below.{allBelow, all-at}
 use Rattle.base.specs.Sums.{one, countBelow}
 use Rattle.base.specs.Lists.{count, total-none}
 use Rattle.room.specs.declared.Room.{Room}
+use Rattle.room.specs.Limits.{roomLimit}
 use Rattle.table.specs.declared.Table.{Table}
+use Rattle.table.specs.Limits.{queueLimit, wireLimit}
 use Rattle.table.specs.Tables.{noQueued, roomAt, queuedAt, queueOf, messagesOf}
 use Rattle.table.specs.Formed.{sizesFit, roomsFine, isBlankRoom, queueFine, queuedFine, isBlankQueued, wellFormed}
 use Rattle.records.specs.declared.Seen.{Seen}
@@ -45,20 +47,20 @@ module _ (t : Table) (s : Seen) (e : s ≡ seenIn (t .n) (t .rooms)) where
     all-rooms : roomsFine t ≡ true
     all-rooms = sym seen-fine ∙ not-false (s .fine) h
 
-    seen-is : s ≡ record { fine = true; tokens = countBelow 16 (λ c. roomAt t c .token); rooms = listed 16 (λ c. standing (roomAt t c)) }
+    seen-is : s ≡ record { fine = true; tokens = countBelow roomLimit (λ c. roomAt t c .token); rooms = listed roomLimit (λ c. standing (roomAt t c)) }
     unfolding seenIn roomsFine roomPlaceFine
     seen-is = e ∙ rw all-rooms
 
     known : Known t (s .rooms)
-    known c l = rw seen-is (listed-at 16 (λ c. standing (roomAt t c)) noStanding c l)
+    known c l = rw seen-is (listed-at roomLimit (λ c. standing (roomAt t c)) noStanding c l)
 
-    unused : (c : ℕ) → t .n ≤ c → c < 16 → roomAt t c .token ≡ false
+    unused : (c : ℕ) → t .n ≤ c → c < roomLimit → roomAt t c .token ≡ false
     unfolding roomsFine roomPlaceFine
     unused c past l =
-        no-token (roomAt t c) (simp (le-ltb c (t .n) past) at (all-at 16 (λ c. roomPlaceFine (t .n) c (roomAt t c)) all-rooms c l))
+        no-token (roomAt t c) (simp (le-ltb c (t .n) past) at (all-at roomLimit (λ c. roomPlaceFine (t .n) c (roomAt t c)) all-rooms c l))
 
-    held : t .n ≤ 16 → s .tokens ≡ countBelow (t .n) (λ c. roomAt t c .token)
-    held l = rw seen-is (count-past 16 (t .n) (λ c. roomAt t c .token) l unused)
+    held : t .n ≤ roomLimit → s .tokens ≡ countBelow (t .n) (λ c. roomAt t c .token)
+    held l = rw seen-is (count-past roomLimit (t .n) (λ c. roomAt t c .token) l unused)
 
     -- the queue
     module _ (b : Bool) (fit : b ≡ sizesFit (t .n) (t .queued) (t .count)) (o : not b ≡ false)
@@ -66,14 +68,14 @@ module _ (t : Table) (s : Seen) (e : s ≡ seenIn (t .n) (t .rooms)) where
       sizes : sizesFit (t .n) (t .queued) (t .count) ≡ true
       sizes = sym fit ∙ not-false b o
 
-      low : t .n ≤ 16
+      low : t .n ≤ roomLimit
       low = fit-rooms (t .n) (t .queued) (t .count) sizes
 
-      places : allBelow 16 (λ i. queuePlaceFine (t .n) (s .rooms) (ltb i (t .queued)) (getD (t .queue) i noQueued)) ≡ queueFine t
+      places : allBelow queueLimit (λ i. queuePlaceFine (t .n) (s .rooms) (ltb i (t .queued)) (getD (t .queue) i noQueued)) ≡ queueFine t
       unfolding queueFine
       places =
           all-same
-          16
+          queueLimit
           (λ i. queuePlaceFine (t .n) (s .rooms) (ltb i (t .queued)) (getD (t .queue) i noQueued))
           (λ i. if ltb i (t .queued) then queuedFine (t .n) (roomAt t) (queuedAt t i) else isBlankQueued (queuedAt t i))
           (λ i l. queue-test t (s .rooms) low known i)
@@ -85,11 +87,11 @@ module _ (t : Table) (s : Seen) (e : s ≡ seenIn (t .n) (t .rooms)) where
       pub named-ill : not (q .fine) ≡ true → false ≡ wellFormed t
       named-ill h = ill-queue t (sym named-fine ∙ not-true (q .fine) h)
 
-      module _ (u : not (q .fine) ≡ false) (long : length (t .wires) ≡ 256) where
+      module _ (u : not (q .fine) ≡ false) (long : length (t .wires) ≡ wireLimit) where
         all-places : queueFine t ≡ true
         all-places = sym named-fine ∙ not-false (q .fine) u
 
-        named-is : q ≡ record { fine = true; times = listed 16 (λ c. count (inPlace c) (queueOf t)) }
+        named-is : q ≡ record { fine = true; times = listed roomLimit (λ c. count (inPlace c) (queueOf t)) }
         unfolding namedIn
         named-is = p ∙ rw (places, all-places)
 
@@ -98,8 +100,8 @@ module _ (t : Table) (s : Seen) (e : s ≡ seenIn (t .n) (t .rooms)) where
         counted =
             rw named-is
             (record {
-              long = length-listed 16 (λ c. count (inPlace c) (queueOf t));
-              at = λ c l. listed-at 16 (λ c. count (inPlace c) (queueOf t)) 0 c l ∙ omega (arith, total-none (λ w. one (inMessage c w)) (messagesOf t));
+              long = length-listed roomLimit (λ c. count (inPlace c) (queueOf t));
+              at = λ c l. listed-at roomLimit (λ c. count (inPlace c) (queueOf t)) 0 c l ∙ omega (arith, total-none (λ w. one (inMessage c w)) (messagesOf t));
             })
 
         carried : s .tokens ≡ tokensBy t 0

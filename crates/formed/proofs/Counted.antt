@@ -9,18 +9,19 @@ use lib.Seq.{getD-set-same, getD-set-other}
 use lib.Dec.{eqb}
 use borrow.Author.Tests.{eq-eqb, ne-eqb}
 use Rattle.base.specs.Sums.{one, same?}
+use Rattle.room.specs.Limits.{roomLimit}
 
 -- the array holds f of each room
 pub record Counted (times : List ℕ) (f : ℕ → ℕ) : Type 0 where
-  pub long : length times ≡ 16
-  pub at : (c : ℕ) → c < 16 → getD times c 0 ≡ f c
+  pub long : length times ≡ roomLimit
+  pub at : (c : ℕ) → c < roomLimit → getD times c 0 ≡ f c
 
 -- one more for the room `at`, and for none where there is no such room
-module _ (times : List ℕ) (f g : ℕ → ℕ) (k : Counted times f) (at : ℕ) (more : (c : ℕ) → c < 16 → g c ≡ f c + one (eqb at c)) (after : List ℕ) where
-  pub counted-raised : at < 16 → after ≡ set times at (getD times at 0 + 1) → Counted after g
+module _ (times : List ℕ) (f g : ℕ → ℕ) (k : Counted times f) (at : ℕ) (more : (c : ℕ) → c < roomLimit → g c ≡ f c + one (eqb at c)) (after : List ℕ) where
+  pub counted-raised : at < roomLimit → after ≡ set times at (getD times at 0 + 1) → Counted after g
   counted-raised h e = rw e (record { long = simp length-set (k .long); at = λ c l. go c l (same? c at) })
     where
-      go : (c : ℕ) → c < 16 → (c ≡ at) ⊎ (c ≡ at → ⊥) → getD (set times at (getD times at 0 + 1)) c 0 ≡ g c
+      go : (c : ℕ) → c < roomLimit → (c ≡ at) ⊎ (c ≡ at → ⊥) → getD (set times at (getD times at 0 + 1)) c 0 ≡ g c
       go c l (inl p) =
           rw p
           (getD-set-same times at (getD times at 0 + 1) 0 (omega (arith, k .long))
@@ -28,5 +29,5 @@ module _ (times : List ℕ) (f g : ℕ → ℕ) (k : Counted times f) (at : ℕ)
       go c l (inr p) =
           getD-set-other times at c (getD times at 0 + 1) 0 p ∙ omega (arith, k .at c l, more c l, ap one (ne-eqb at c (λ q. p (sym q))))
 
-  pub counted-kept : 16 ≤ at → after ≡ times → Counted after g
+  pub counted-kept : roomLimit ≤ at → after ≡ times → Counted after g
   counted-kept h e = rw e (record { long = k .long; at = λ c l. omega (arith, k .at c l, more c l, ap one (ne-eqb at c (omega arith))) })

@@ -9,13 +9,14 @@ use lib.Dec.{ltb, eqb}
 use borrow.Author.Tests.{lt-ltb, eq-eqb, ne-eqb}
 use Rattle.base.specs.Below.{allBelow}
 use Rattle.base.specs.Sums.{one}
+use Rattle.room.specs.Limits.{roomLimit}
 use Rattle.records.specs.declared.Standing.{Standing}
 use Rattle.records.specs.Seen.{noStanding}
 use Rattle.formed.specs.Standings.{standingAt}
 use Rattle.formed.specs.Names.{timesFine}
 
 -- past the array there is no standing
-pub standing-past : (rooms : List Standing) (c : ℕ) → length rooms ≡ 16 → 16 ≤ c → noStanding ≡ standingAt rooms c
+pub standing-past : (rooms : List Standing) (c : ℕ) → length rooms ≡ roomLimit → roomLimit ≤ c → noStanding ≡ standingAt rooms c
 standing-past rooms c e h = sym (List·getD-eq-default rooms noStanding (rw e h))
 
 module _ (due : ℕ) where

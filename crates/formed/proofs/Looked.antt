@@ -12,9 +12,11 @@ use Rattle.base.specs.Tests.{and-left, and-right}
 use Rattle.base.specs.Below.{allBelow, all-more, all-fails}
 use Rattle.base.specs.Sums.{one, one-le, countBelow, count-below-le}
 use Rattle.base.specs.Lists.{count, count-le}
+use Rattle.room.specs.Limits.{roomLimit}
 use Rattle.table.specs.declared.Table.{Table}
 use Rattle.table.specs.declared.Queued.{Queued}
 use Rattle.table.specs.declared.Wire.{Wire}
+use Rattle.table.specs.Limits.{queueLimit, wireLimit}
 use Rattle.table.specs.Tables.{noWire, roomAt, queuedAt, wireAt, queueOf, messagesOf}
 use Rattle.table.specs.Formed.{sizesFit, roomsFine, due, queueFine, queuedFine, isBlankQueued, wiresFine, wireFine, isBlankWire, tokens, isToken, names, isNamedIn, namesFine, wellFormed}
 use Rattle.records.specs.declared.Standing.{Standing}
@@ -51,34 +53,34 @@ tokensBy t i = countBelow (t .n) (λ c. roomAt t c .token) + count withToken (ta
 
 -- the standings are those of the rooms
 abbrev pub Known : Table → List Standing → Type 0
-Known t standings = (c : ℕ) → c < 16 → standingAt standings c ≡ standing (roomAt t c)
+Known t standings = (c : ℕ) → c < roomLimit → standingAt standings c ≡ standing (roomAt t c)
 
 -- all but the wires is as it should be, and so are the first i wires; names and tokens are counted so far
 pub record Looked (t : Table) (standings : List Standing) (times : List ℕ) (held i : ℕ) : Type 0 where
-  pub long : length (t .wires) ≡ 256
+  pub long : length (t .wires) ≡ wireLimit
   pub sizes : sizesFit (t .n) (t .queued) (t .count) ≡ true
   pub rooms : roomsFine t ≡ true
   pub queue : queueFine t ≡ true
   pub known : Known t standings
-  pub low : i ≤ 256
+  pub low : i ≤ wireLimit
   pub wires : allBelow i (wireTest t) ≡ true
   pub carried : held ≡ tokensBy t i
   pub named : Counted times (namesBy t i)
 
 -- sizes that fit
 module _ (n queued count : ℕ) (h : sizesFit n queued count ≡ true) where
-  both : (leb 1 n && leb n 16 && leb queued 16) ≡ true
+  both : (leb 1 n && leb n roomLimit && leb queued queueLimit) ≡ true
   unfolding sizesFit
-  both = and-left (leb 1 n && leb n 16 && leb queued 16) (leb count 256) h
+  both = and-left (leb 1 n && leb n roomLimit && leb queued queueLimit) (leb count wireLimit) h
 
-  pub fit-rooms : n ≤ 16
-  fit-rooms = leb-true n 16 (and-right (leb 1 n) (leb n 16) (and-left (leb 1 n && leb n 16) (leb queued 16) both))
+  pub fit-rooms : n ≤ roomLimit
+  fit-rooms = leb-true n roomLimit (and-right (leb 1 n) (leb n roomLimit) (and-left (leb 1 n && leb n roomLimit) (leb queued queueLimit) both))
 
-  pub fit-queue : queued ≤ 16
-  fit-queue = leb-true queued 16 (and-right (leb 1 n && leb n 16) (leb queued 16) both)
+  pub fit-queue : queued ≤ queueLimit
+  fit-queue = leb-true queued queueLimit (and-right (leb 1 n && leb n roomLimit) (leb queued queueLimit) both)
 
 -- the rooms told by standings are, in their standings, the rooms
-module _ (t : Table) (standings : List Standing) (fits : t .n ≤ 16) (known : Known t standings) where
+module _ (t : Table) (standings : List Standing) (fits : t .n ≤ roomLimit) (known : Known t standings) where
   dues : (c : ℕ) → c < t .n → due (roomsOf standings c) ≡ due (roomAt t c)
   unfolding due standing
   dues c h = ap (λ s. s .due) (known c (omega arith))
@@ -116,14 +118,14 @@ module _ (t : Table) where
 
 -- one turn of the loop over the wires
 module _ (t : Table) (standings : List Standing) (times : List ℕ) (held i : ℕ) (k : Looked t standings times held i) where
-  fits : t .n ≤ 16
+  fits : t .n ≤ roomLimit
   fits = fit-rooms (t .n) (t .queued) (t .count) (k .sizes)
 
   carries : (m : Carried) → m ≡ carriedBy (wireAt t i .to) (wireAt t i .message) → m .tokens ≡ one (withToken (wireAt t i))
   carries m p = rw p (tokens-are (wireAt t i .to) (wireAt t i .message))
 
   -- so many names and tokens can be counted
-  pub looked-times : (at : ℕ) → at < 16 → getD times at 0 ≤ 16 + i
+  pub looked-times : (at : ℕ) → at < roomLimit → getD times at 0 ≤ queueLimit + i
   unfolding namesBy
   looked-times at h =
       omega (
@@ -135,7 +137,7 @@ module _ (t : Table) (standings : List Standing) (times : List ℕ) (held i : �
         prefix-low (inMessage at) (t .wires) (t .count) i,
       )
 
-  pub looked-tokens : (m : Carried) → m ≡ carriedBy (wireAt t i .to) (wireAt t i .message) → held + m .tokens ≤ 17 + i
+  pub looked-tokens : (m : Carried) → m ≡ carriedBy (wireAt t i .to) (wireAt t i .message) → held + m .tokens ≤ roomLimit + 1 + i
   unfolding tokensBy
   looked-tokens m p =
       omega (
@@ -149,13 +151,13 @@ module _ (t : Table) (standings : List Standing) (times : List ℕ) (held i : �
       )
 
   -- the wire at i
-  module _ (turn : i < 256) (b : Bool) (e : b ≡ wirePlaceFine (t .n) standings (ltb i (t .count)) (wireAt t i)) where
+  module _ (turn : i < wireLimit) (b : Bool) (e : b ≡ wirePlaceFine (t .n) standings (ltb i (t .count)) (wireAt t i)) where
     tested : b ≡ wireTest t i
     tested = e ∙ wire-test t standings fits (k .known) i
 
     pub looked-ill : not b ≡ true → false ≡ wellFormed t
     unfolding wiresFine
-    looked-ill h = ill-wires t (all-fails (wireTest t) 256 i turn (sym tested ∙ not-true b h))
+    looked-ill h = ill-wires t (all-fails (wireTest t) wireLimit i turn (sym tested ∙ not-true b h))
 
     module _ (h : not b ≡ false) (m : Carried) (p : m ≡ carriedBy (wireAt t i .to) (wireAt t i .message)) where
       fine : wireTest t i ≡ true
@@ -164,7 +166,7 @@ module _ (t : Table) (standings : List Standing) (times : List ℕ) (held i : �
       blank : t .count ≤ i → isBlankWire (wireAt t i) ≡ true
       blank l = simp (le-ltb i (t .count) l) at fine
 
-      pub names-next : (c : ℕ) → c < 16 → namesBy t (i + 1) c ≡ namesBy t i c + one (eqb (m .room) c)
+      pub names-next : (c : ℕ) → c < roomLimit → namesBy t (i + 1) c ≡ namesBy t i c + one (eqb (m .room) c)
       unfolding namesBy
       names-next c l =
           omega (
@@ -218,15 +220,15 @@ module _ (t : Table) (standings : List Standing) (times : List ℕ) (held i : �
           }
 
 -- all the wires
-module _ (t : Table) (standings : List Standing) (times : List ℕ) (held : ℕ) (k : Looked t standings times held 256) where
+module _ (t : Table) (standings : List Standing) (times : List ℕ) (held : ℕ) (k : Looked t standings times held wireLimit) where
   all-tokens : held ≡ tokens (t .n) (roomAt t) (messagesOf t)
   unfolding tokensBy tokens
-  all-tokens = k .carried ∙ ap (λ m. countBelow (t .n) (λ c. roomAt t c .token) + m) (prefix-all withToken (t .wires) (t .count) 256 (omega arith))
+  all-tokens = k .carried ∙ ap (λ m. countBelow (t .n) (λ c. roomAt t c .token) + m) (prefix-all withToken (t .wires) (t .count) wireLimit (omega arith))
 
-  all-names : (c : ℕ) → c < 16 → getD times c 0 ≡ names (queueOf t) (messagesOf t) c
+  all-names : (c : ℕ) → c < roomLimit → getD times c 0 ≡ names (queueOf t) (messagesOf t) c
   unfolding namesBy names
   all-names c h =
-      k .named .at c h ∙ ap (λ m. count (inPlace c) (queueOf t) + m) (prefix-all (inMessage c) (t .wires) (t .count) 256 (omega arith))
+      k .named .at c h ∙ ap (λ m. count (inPlace c) (queueOf t) + m) (prefix-all (inMessage c) (t .wires) (t .count) wireLimit (omega arith))
 
   all-right : timesFine (t .n) standings times ≡ namesFine t
   unfolding timesFine namesFine standing
@@ -235,7 +237,7 @@ module _ (t : Table) (standings : List Standing) (times : List ℕ) (held : ℕ)
       (t .n)
       (λ c. eqb (getD times c 0) (one (ltb 0 (standingAt standings c .due))))
       (λ c. eqb (names (queueOf t) (messagesOf t) c) (one (ltb 0 (due (roomAt t c)))))
-      (λ c h. let l : c < 16 = omega (arith, fit-rooms (t .n) (t .queued) (t .count) (k .sizes)) in rw (all-names c l, k .known c l))
+      (λ c h. let l : c < roomLimit = omega (arith, fit-rooms (t .n) (t .queued) (t .count) (k .sizes)) in rw (all-names c l, k .known c l))
 
   parts : wellFormed t ≡ (eqb held 1 && timesFine (t .n) standings times)
   unfolding wellFormed wiresFine

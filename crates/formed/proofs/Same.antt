@@ -9,6 +9,7 @@ use Rattle.base.specs.Choice.{split}
 use Rattle.base.specs.Tests.{and-right}
 use Rattle.base.specs.Sums.{one}
 use Rattle.room.specs.declared.Room.{Room}
+use Rattle.room.specs.Limits.{roomLimit}
 use Rattle.table.specs.declared.Queued.{Queued}
 use Rattle.table.specs.declared.Wire.{Wire}
 use Rattle.table.specs.declared.Message.{Message}
@@ -43,13 +44,13 @@ module _ (n : ℕ) (f g : ℕ → Room) (dues : (c : ℕ) → c < n → due (f c
         (λ e. simp (e, and-false))
 
 -- a message names the room that is found in it, and carries as many tokens
-pub named-is : (c : ℕ) → c < 16 → (to : ℕ) (m : Message) → isNamedIn c to m ≡ eqb (carriedBy to m .room) c
+pub named-is : (c : ℕ) → c < roomLimit → (to : ℕ) (m : Message) → isNamedIn c to m ≡ eqb (carriedBy to m .room) c
 unfolding isNamedIn carriedBy
-named-is c h to msg.Nothing = sym (ne-eqb 16 c (omega arith))
+named-is c h to msg.Nothing = sym (ne-eqb roomLimit c (omega arith))
 named-is c h to (msg.Request o m idle) = refl
 named-is c h to (msg.Grant m l) = refl
 named-is c h to (msg.Token m rest l) = refl
-named-is c h to (msg.Reduce l m) = sym (ne-eqb 16 c (omega arith))
+named-is c h to (msg.Reduce l m) = sym (ne-eqb roomLimit c (omega arith))
 
 pub tokens-are : (to : ℕ) (m : Message) → carriedBy to m .tokens ≡ one (isToken m)
 unfolding isToken carriedBy

@@ -12,6 +12,7 @@ mod queue; // queue.rt: the places of the queue
 mod ranges; // ranges.rt: modes and sizes in range
 mod wires; // wires.rt: the messages
 
+use records::NO_STANDING;
 use records::Standing;
 use room::ROOMS;
 use table::Table;
@@ -25,10 +26,7 @@ fn standing_at(rooms: [Standing; ROOMS], c: u8) -> Standing
     if at < ROOMS {
         return rooms[at];
     }
-    Standing {
-        due: 0,
-        token: false,
-    }
+    NO_STANDING
 }
 
 // How often a room is to be named that waits for this mode.

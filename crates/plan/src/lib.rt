@@ -16,12 +16,12 @@ use rules::Event;
 use rules::HANDBACK;
 use rules::UPGRADE;
 use table::Found;
-use table::Message;
+use table::NO_QUEUED;
+use table::NO_WIRE;
 use table::QUEUE;
 use table::Queued;
 use table::Table;
 use table::WIRES;
-use table::Wire;
 use table::numbers;
 
 // An ASK is refused from this many messages on the wires,
@@ -67,17 +67,12 @@ fn made(me: u8, place: usize, gap: usize, done: Done) -> Plan
 fn refused(number: u8) -> Plan
     ensures { λ p. ⌜ p ≡ refusedPlan «number» ⌝ }
 {
-    let nothing = Wire {
-        from: 0,
-        to: 0,
-        message: Message::Nothing,
-    };
     let room = Room::blank();
     let done = Done {
         room: room,
-        queue: [Queued { room: 0, mode: 0 }; PLACES],
+        queue: [NO_QUEUED; PLACES],
         queued: 0,
-        out: [nothing; OUTBOX],
+        out: [NO_WIRE; OUTBOX],
         sent: 0,
         worn: false,
     };

@@ -107,36 +107,36 @@ module _ (n c : ℕ) (r : Room) where
 
   module _ (other : r .lender ≡ c → ⊥) where
     module _ (none : r .credit ≡ 0) where
-      pub owes-free : r .lender ≡ 255 → eqb (r .link) 0 ≡ owesRightly n c r
+      pub owes-free : r .lender ≡ nobody → eqb (r .link) 0 ≡ owesRightly n c r
       unfolding owesRightly
-      owes-free h = simp (none, eq-eqb (r .lender) 255 h, ne-eqb (r .lender) c other, implies-true, and-true)
+      owes-free h = simp (none, eq-eqb (r .lender) nobody h, ne-eqb (r .lender) c other, implies-true, and-true)
 
-      pub owes-nothing : (r .lender ≡ 255 → ⊥) → eqb (r .lender) 255 ≡ owesRightly n c r
+      pub owes-nothing : (r .lender ≡ nobody → ⊥) → eqb (r .lender) nobody ≡ owesRightly n c r
       unfolding owesRightly
-      owes-nothing h = simp (none, ne-eqb (r .lender) 255 h, and-false)
+      owes-nothing h = simp (none, ne-eqb (r .lender) nobody h, and-false)
 
     module _ (some : r .credit ≡ 0 → ⊥) (code : r .credit < 6) where
       pub owes-past : n ≤ r .lender → ltb (r .lender) n ≡ owesRightly n c r
       unfolding owesRightly
       owes-past h =
-          split (eqb (r .lender) 255)
+          split (eqb (r .lender) nobody)
           (λ e. simp (e, ne-eqb (r .credit) 0 some, le-ltb (r .lender) n h, and-false))
           (λ e. simp (e, le-ltb (r .lender) n h, and-false))
 
-      pub owes-some : r .lender < n → n < 256 → not (r .token) ≡ owesRightly n c r
+      pub owes-some : r .lender < n → n ≤ nobody → not (r .token) ≡ owesRightly n c r
       unfolding owesRightly
       owes-some h k =
           simp (
             le-leb (r .credit) 5 (omega arith),
             ne-eqb (r .credit) 0 some,
             lt-ltb (r .lender) n h,
-            ne-eqb (r .lender) 255 (omega arith),
+            ne-eqb (r .lender) nobody (omega arith),
             ne-eqb (r .lender) c other,
             implies-false,
           )
 
 -- the loop over the entries
-pub entries-all : (n c : ℕ) (entries : List Entry) → allBelow 16 (λ j. entryFine n c j (getD entries j noEntry)) ≡ entriesFine n c entries
+pub entries-all : (n c : ℕ) (entries : List Entry) → allBelow roomLimit (λ j. entryFine n c j (getD entries j noEntry)) ≡ entriesFine n c entries
 unfolding entriesFine
 entries-all n c entries = refl
 
@@ -231,9 +231,9 @@ module _ (r : Room) where
   unfolding isBlankRoom
   blank-toward h = simp (ne-eqb (r .toward) 0 h, and-false)
 
-  pub blank-lender : (r .lender ≡ 255 → ⊥) → false ≡ isBlankRoom r
+  pub blank-lender : (r .lender ≡ nobody → ⊥) → false ≡ isBlankRoom r
   unfolding isBlankRoom
-  blank-lender h = simp (ne-eqb (r .lender) 255 h, and-false)
+  blank-lender h = simp (ne-eqb (r .lender) nobody h, and-false)
 
   pub blank-credit : (r .credit ≡ 0 → ⊥) → false ≡ isBlankRoom r
   unfolding isBlankRoom
@@ -247,9 +247,9 @@ module _ (r : Room) where
   unfolding isBlankRoom
   blank-counter h = simp (ne-eqb (r .counter) 0 h, and-false)
 
-  pub blank-room : r .held ≡ 0 → r .wanted ≡ 0 → r .token ≡ false → r .toward ≡ 0 → r .lender ≡ 255 → r .credit ≡ 0 → r .link ≡ 0
+  pub blank-room : r .held ≡ 0 → r .wanted ≡ 0 → r .token ≡ false → r .toward ≡ 0 → r .lender ≡ nobody → r .credit ≡ 0 → r .link ≡ 0
       → r .counter ≡ 0 → (b : Bool) → b ≡ entriesFine 0 0 (r .entries) → b ≡ isBlankRoom r
   unfolding isBlankRoom entriesFine
   blank-room h w t o l k i u b e =
       simp (h, w, t, o, l, k, i, u)
-      (e ∙ all-same 16 (λ j. entryFine 0 0 j (entryAt r j)) (λ j. isBlankEntry (entryAt r j)) (λ j q. blank-entry j (entryAt r j)))
+      (e ∙ all-same roomLimit (λ j. entryFine 0 0 j (entryAt r j)) (λ j. isBlankEntry (entryAt r j)) (λ j q. blank-entry j (entryAt r j)))

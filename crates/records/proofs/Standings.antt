@@ -11,22 +11,23 @@ use lib.Seq.{getD-set-same, getD-set-other}
 use Rattle.base.specs.Below.{allBelow, all-fails}
 use Rattle.base.specs.Sums.{countBelow, same?}
 use Rattle.room.specs.declared.Room.{Room}
+use Rattle.room.specs.Limits.{roomLimit}
 use Rattle.room.specs.Record.{noRoom}
 use Rattle.records.specs.declared.Standing.{Standing}
 use Rattle.records.specs.Parts.{roomPlaceFine}
 use Rattle.records.specs.Seen.{noStanding, standing, seenIn}
 use Rattle.records.proofs.Lists.{listed-is}
 
--- the first c places of an array of sixteen hold the standings of the first c rooms
+-- the first c places hold the standings of the first c rooms
 pub record Filled (rooms : List Room) (standings : List Standing) (c : ℕ) : Type 0 where
-  pub long : length standings ≡ 16
+  pub long : length standings ≡ roomLimit
   pub low : (k : ℕ) → k < c → getD standings k noStanding ≡ standing (getD rooms k noRoom)
 
 module _ (rooms : List Room) where
-  pub filled-none : Filled rooms (replicate 16 noStanding) 0
+  pub filled-none : Filled rooms (replicate roomLimit noStanding) 0
   filled-none = record { long = refl; low = λ k h. absurd (not-suc-le-zero h) }
 
-  pub filled-more : (standings : List Standing) (c : ℕ) → c < 16 → Filled rooms standings c → (s : Standing) → s ≡ standing (getD rooms c noRoom)
+  pub filled-more : (standings : List Standing) (c : ℕ) → c < roomLimit → Filled rooms standings c → (s : Standing) → s ≡ standing (getD rooms c noRoom)
       → Filled rooms (set standings c s) (c + 1)
   filled-more standings c h f s e = record { long = simp length-set (f .long); low = λ k l. go k l (same? k c) }
     where
@@ -35,12 +36,12 @@ module _ (rooms : List Room) where
       go k l (inr p) = getD-set-other standings c k s noStanding p ∙ f .low k (omega arith)
 
 module _ (n : ℕ) (rooms : List Room) where
-  pub seen-ill : (c : ℕ) → c < 16 → roomPlaceFine n c (getD rooms c noRoom) ≡ false
-      → record { fine = false; tokens = 0; rooms = replicate 16 noStanding } ≡ seenIn n rooms
+  pub seen-ill : (c : ℕ) → c < roomLimit → roomPlaceFine n c (getD rooms c noRoom) ≡ false
+      → record { fine = false; tokens = 0; rooms = replicate roomLimit noStanding } ≡ seenIn n rooms
   unfolding seenIn
-  seen-ill c h e = rw (all-fails (λ c. roomPlaceFine n c (getD rooms c noRoom)) 16 c h e)
+  seen-ill c h e = rw (all-fails (λ c. roomPlaceFine n c (getD rooms c noRoom)) roomLimit c h e)
 
-  pub seen-all : allBelow 16 (λ c. roomPlaceFine n c (getD rooms c noRoom)) ≡ true → (k : ℕ) → k ≡ countBelow 16 (λ c. getD rooms c noRoom .token)
-      → (standings : List Standing) → Filled rooms standings 16 → record { fine = true; tokens = k; rooms = standings } ≡ seenIn n rooms
+  pub seen-all : allBelow roomLimit (λ c. roomPlaceFine n c (getD rooms c noRoom)) ≡ true → (k : ℕ) → k ≡ countBelow roomLimit (λ c. getD rooms c noRoom .token)
+      → (standings : List Standing) → Filled rooms standings roomLimit → record { fine = true; tokens = k; rooms = standings } ≡ seenIn n rooms
   unfolding seenIn
-  seen-all a k e standings f = rw (a, e, listed-is 16 (λ c. standing (getD rooms c noRoom)) noStanding standings (f .long) (f .low))
+  seen-all a k e standings f = rw (a, e, listed-is roomLimit (λ c. standing (getD rooms c noRoom)) noStanding standings (f .long) (f .low))

@@ -21,6 +21,12 @@ pub struct Standing {
     pub token: bool,
 }
 
+// Of a room that does not wait and has no token.
+pub const NO_STANDING: Standing = Standing {
+    due: NONE,
+    token: false,
+};
+
 // Whether all rooms are as they should be; if so, how many have the token, and each room's standing.
 pub struct Seen {
     pub fine: bool,
@@ -150,7 +156,7 @@ fn standing_of(r: Room) -> Standing
             token: r.token,
         },
         1..=255 => Standing {
-            due: 0,
+            due: NONE,
             token: r.token,
         },
     }
@@ -160,10 +166,7 @@ fn standing_of(r: Room) -> Standing
 pub fn look_over(n: u8, rooms: [Room; ROOMS]) -> Seen
     ensures { λ s. ⌜ s ≡ seenIn n rooms ⌝ }
 {
-    let none = [Standing {
-        due: 0,
-        token: false,
-    }; ROOMS];
+    let none = [NO_STANDING; ROOMS];
     let mut standings = none;
     let mut tokens: usize = 0;
     let mut c: usize = 0;

@@ -20,6 +20,12 @@ pub struct Entry {
     pub link: u32,
 }
 
+// No entry.
+const NO_ENTRY: Entry = Entry {
+    mode: modes::NONE,
+    link: 0,
+};
+
 pub struct Room {
     pub held: u8,
     pub wanted: u8,
@@ -64,7 +70,7 @@ fn entry_of(mode: u8, link: u32) -> Entry
     ensures { λ r. ⌜ r ≡ entryOf mode link ⌝ }
 {
     match mode {
-        modes::NONE => Entry { mode: 0, link: 0 },
+        modes::NONE => NO_ENTRY,
         1..=255 => Entry {
             mode: mode,
             link: link,
@@ -78,15 +84,15 @@ impl Room {
         ensures { λ r. ⌜ r ≡ blankRoom ⌝ }
     {
         Room {
-            held: 0,
-            wanted: 0,
+            held: modes::NONE,
+            wanted: modes::NONE,
             token: false,
             toward: 0,
             lender: NOBODY,
-            credit: 0,
+            credit: modes::NONE,
             link: 0,
             counter: 0,
-            entries: [Entry { mode: 0, link: 0 }; ROOMS],
+            entries: [NO_ENTRY; ROOMS],
         }
     }
 
@@ -98,7 +104,7 @@ impl Room {
         if at < ROOMS {
             return self.entries[at];
         }
-        Entry { mode: 0, link: 0 }
+        NO_ENTRY
     }
 
     // The record with this entry for room c, where it has a place for one.
@@ -162,7 +168,7 @@ impl Room {
         ensures { λ r. ⌜ r ≡ passed self w ⌝ }
     {
         let link = next_link(self.counter);
-        let mut room = self.with_entry(w, Entry { mode: 0, link: 0 });
+        let mut room = self.with_entry(w, NO_ENTRY);
         let rest = room.owned();
         room.token = false;
         room.toward = w;
@@ -232,7 +238,7 @@ impl Room {
         Send::Reduce {
             to: self.lender,
             link: self.link,
-            mode: 0,
+            mode: modes::NONE,
         }
     }
 
@@ -246,7 +252,7 @@ impl Room {
         room.link = link;
         room.credit = mode;
         room.held = mode;
-        room.wanted = 0;
+        room.wanted = modes::NONE;
         Changed {
             room: room,
             send: send,
@@ -260,11 +266,11 @@ impl Room {
         let send = self.leave(a);
         let mut room = self.with_entry(a, entry_of(rest, link));
         room.held = mode;
-        room.wanted = 0;
+        room.wanted = modes::NONE;
         room.token = true;
         room.toward = me;
         room.lender = NOBODY;
-        room.credit = 0;
+        room.credit = modes::NONE;
         room.link = 0;
         if self.counter < link {
             room.counter = link;

@@ -6,17 +6,17 @@ ghost use Rattle.table.specs.Limits.{queueLimit};
 ghost use Rattle.step.specs.Writes.{Fits, writtenOf};
 use act::PLACES;
 use plan::Plan;
-use table::Message;
+use table::NO_QUEUED;
+use table::NO_WIRE;
 use table::QUEUE;
 use table::Queued;
 use table::Table;
-use table::Wire;
 
 // The queue without the place that only a desk has.
 fn shorter(queue: [Queued; PLACES]) -> [Queued; QUEUE]
     ensures { λ r. ⌜ r ≡ take queueLimit queue ⌝ }
 {
-    let mut short = [Queued { room: 0, mode: 0 }; QUEUE];
+    let mut short = [NO_QUEUED; QUEUE];
     let mut i: usize = 0;
     while i < QUEUE {
         let q = queue[i];
@@ -61,11 +61,7 @@ pub fn written(t: Table, p: Plan) -> Table
             let w = d.out[i - kept];
             u.wires[i] = w;
         } else {
-            u.wires[i] = Wire {
-                from: 0,
-                to: 0,
-                message: Message::Nothing,
-            };
+            u.wires[i] = NO_WIRE;
         }
         i += 1;
     }

@@ -35,6 +35,18 @@ pub struct Queued {
     pub mode: u8,
 }
 
+// What stands on a wire and in a place of the queue that are not in use.
+pub const NO_WIRE: Wire = Wire {
+    from: 0,
+    to: 0,
+    message: Message::Nothing,
+};
+
+pub const NO_QUEUED: Queued = Queued {
+    room: 0,
+    mode: modes::NONE,
+};
+
 pub struct Table {
     pub n: u8,
     pub rooms: [Room; ROOMS],
@@ -60,17 +72,12 @@ pub struct Answer {
 fn laid(n: u8, rooms: [Room; ROOMS]) -> Table
     ensures { λ t. ⌜ t ≡ emptyTable n rooms ⌝ }
 {
-    let nothing = Wire {
-        from: 0,
-        to: 0,
-        message: Message::Nothing,
-    };
     Table {
         n: n,
         rooms: rooms,
-        queue: [Queued { room: 0, mode: 0 }; QUEUE],
+        queue: [NO_QUEUED; QUEUE],
         queued: 0,
-        wires: [nothing; WIRES],
+        wires: [NO_WIRE; WIRES],
         count: 0,
     }
 }

@@ -107,7 +107,10 @@ fn with_reduces(mut t: Table, count: usize) -> Table {
     let w = Wire {
         from: 1,
         to: 0,
-        message: Message::Reduce { link: 7, mode: 0 },
+        message: Message::Reduce {
+            link: 7,
+            mode: modes::NONE,
+        },
     };
     let mut i = t.count;
     while i < WIRES {

@@ -108,7 +108,7 @@ pub fn byte(value: usize) -> u8 {
 
 // A value as a link number: the last one where it is larger.
 pub fn link(value: usize) -> u32 {
-    if value < 4294967296 {
+    if value <= room::LAST_LINK as usize {
         value as u32
     } else {
         room::LAST_LINK

@@ -4,13 +4,14 @@ use crate::command;
 use crate::desk;
 use crate::desk::Desk;
 use bytes::scan::find;
+use libc::STDOUT_FILENO;
 
 // A line's label, and the number that its last command gave back.
 fn show(label: &[u8], number: u8) {
-    io::write_all(1, label);
-    io::write_all(1, b": ");
-    io::print_decimal(1, number as u64);
-    io::write_all(1, b"\n");
+    io::write_all(STDOUT_FILENO, label);
+    io::write_all(STDOUT_FILENO, b": ");
+    io::print_decimal(STDOUT_FILENO, number as u64);
+    io::write_all(STDOUT_FILENO, b"\n");
 }
 
 // The commands of a line, from a place on.

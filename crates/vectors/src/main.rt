@@ -9,6 +9,6 @@ mod words; // words.rt: the words of the commands
 
 fn main() {
     let mut text = io::large_buffer();
-    let n = io::read_full(0, &mut text);
+    let n = io::read_full(libc::STDIN_FILENO, &mut text);
     lines::take_all(&text[..n]);
 }

@@ -61,5 +61,5 @@ pub const COUNT: u64 = 0x63_6f_75_6e_74; // count
 
 // A word that is none of these: what is printed is then not what is expected.
 pub fn unknown() {
-    io::write_all(1, b"a word not understood\n");
+    io::write_all(libc::STDOUT_FILENO, b"a word not understood\n");
 }

@@ -11,10 +11,10 @@ use Rattle.act.proofs.lay_out.Statement.{statement}
 use Rattle.act.proofs.lay_out.Tie as tie
 
 abbrev Inv-loop : tie.InvT-loop
-Inv-loop s nothing queue₀ i₀ queue i = (i ≤ queueLimit) × (length queue ≡ placeLimit) × (take i queue ≡ take i (s .queue))
+Inv-loop s queue₀ i₀ queue i = (i ≤ queueLimit) × (length queue ≡ placeLimit) × (take i queue ≡ take i (s .queue))
 
 abbrev μ-loop : tie.MeasureT-loop
-μ-loop s nothing queue₀ i₀ queue i = queueLimit - i
+μ-loop s queue₀ i₀ queue i = queueLimit - i
 
 loop-holds : tie.Need-loop-holds Inv-loop μ-loop
 loop-holds c = (search needs, refl, refl)

@@ -1,5 +1,6 @@
 use borrow.Author.Needs.{needs}
-use Prim.Native.Nat.{_≤_, _-_}
+use Prim.Native.Nat.{suc, _≤_, _-_}
+use Rattle.room.specs.Limits.{roomLimit}
 use Rattle.drains.proofs.main.Statement.{statement}
 use Rattle.drains.proofs.main.Tie as tie
 
@@ -7,7 +8,7 @@ abbrev Inv-loop : tie.InvT-loop
 Inv-loop n₀ t3 n = n₀ ≤ n
 
 abbrev μ-loop : tie.MeasureT-loop
-μ-loop n₀ t3 n = 17 - n
+μ-loop n₀ t3 n = suc roomLimit - n
 
 loop-holds : tie.Need-loop-holds Inv-loop μ-loop
 loop-holds c = search needs

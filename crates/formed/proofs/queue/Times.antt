@@ -12,7 +12,9 @@ use Rattle.base.specs.Tests.{and-left, and-right}
 use Rattle.base.specs.Below.{allBelow, all-fails}
 use Rattle.base.specs.Sums.{one, below?}
 use Rattle.base.specs.Lists.{count, total-none}
+use Rattle.room.specs.Limits.{roomLimit}
 use Rattle.table.specs.declared.Queued.{Queued}
+use Rattle.table.specs.Limits.{queueLimit}
 use Rattle.table.specs.Tables.{noQueued}
 use Rattle.table.specs.Formed.{isMode, due, queuedFine}
 use Rattle.records.specs.declared.Standing.{Standing}
@@ -29,10 +31,10 @@ unfoldable pub placesNaming : List Queued → ℕ → ℕ → ℕ → ℕ
 placesNaming queue queued i c = count (λ q. eqb (q .room) c) (take i (take queued queue))
 
 module _ (queue : List Queued) (queued : ℕ) where
-  pub naming-none : Counted (replicate 16 0) (placesNaming queue queued 0)
+  pub naming-none : Counted (replicate roomLimit 0) (placesNaming queue queued 0)
   unfolding placesNaming
   naming-none =
-      record { long = refl; at = λ c h. getD-replicate 16 c 0 0 h ∙ sym (total-none (λ q. one (eqb (q .room) c)) (take queued queue)) }
+      record { long = refl; at = λ c h. getD-replicate roomLimit c 0 0 h ∙ sym (total-none (λ q. one (eqb (q .room) c)) (take queued queue)) }
 
   pub naming-low : (i c : ℕ) → placesNaming queue queued i c ≤ i
   unfolding placesNaming
@@ -40,13 +42,13 @@ module _ (queue : List Queued) (queued : ℕ) where
 
   -- one place more: it names its room, where it is in use
   module _ (i : ℕ) (h : i < length queue) where
-    pub naming-used : i < queued → (c : ℕ) → c < 16
+    pub naming-used : i < queued → (c : ℕ) → c < roomLimit
         → placesNaming queue queued (i + 1) c ≡ placesNaming queue queued i c + one (eqb (getD queue i noQueued .room) c)
     unfolding placesNaming
     naming-used k c l =
         prefix-next (λ q. eqb (q .room) c) queue queued noQueued i h (eqb (getD queue i noQueued .room) c) (λ u. refl) (λ u. absurd (omega arith))
 
-    pub naming-unused : queued ≤ i → (c : ℕ) → c < 16 → placesNaming queue queued (i + 1) c ≡ placesNaming queue queued i c + one (eqb 16 c)
+    pub naming-unused : queued ≤ i → (c : ℕ) → c < roomLimit → placesNaming queue queued (i + 1) c ≡ placesNaming queue queued i c + one (eqb roomLimit c)
     unfolding placesNaming
     naming-unused k c l =
         prefix-next
@@ -56,32 +58,32 @@ module _ (queue : List Queued) (queued : ℕ) where
         noQueued
         i
         h
-        (eqb 16 c)
+        (eqb roomLimit c)
         (λ u. absurd (omega arith))
-        (λ u. ne-eqb 16 c (omega arith))
+        (λ u. ne-eqb roomLimit c (omega arith))
 
 module _ (n : ℕ) (rooms : List Standing) (queue : List Queued) (queued : ℕ) where
-  pub named-ill : (i : ℕ) → i < 16 → queuePlaceFine n rooms (ltb i queued) (getD queue i noQueued) ≡ false
-      → record { fine = false; times = replicate 16 0 } ≡ namedIn n rooms queue queued
+  pub named-ill : (i : ℕ) → i < queueLimit → queuePlaceFine n rooms (ltb i queued) (getD queue i noQueued) ≡ false
+      → record { fine = false; times = replicate roomLimit 0 } ≡ namedIn n rooms queue queued
   unfolding namedIn
-  named-ill i h e = rw (all-fails (λ i. queuePlaceFine n rooms (ltb i queued) (getD queue i noQueued)) 16 i h e)
+  named-ill i h e = rw (all-fails (λ i. queuePlaceFine n rooms (ltb i queued) (getD queue i noQueued)) queueLimit i h e)
 
-  pub named-all : length queue ≡ 16 → allBelow 16 (λ i. queuePlaceFine n rooms (ltb i queued) (getD queue i noQueued)) ≡ true
-      → (times : List ℕ) → Counted times (placesNaming queue queued 16) → record { fine = true; times = times } ≡ namedIn n rooms queue queued
+  pub named-all : length queue ≡ queueLimit → allBelow queueLimit (λ i. queuePlaceFine n rooms (ltb i queued) (getD queue i noQueued)) ≡ true
+      → (times : List ℕ) → Counted times (placesNaming queue queued queueLimit) → record { fine = true; times = times } ≡ namedIn n rooms queue queued
   unfolding namedIn placesNaming
   named-all long a times k =
       rw (
         a,
         listed-is
-            16
+            roomLimit
             (λ c. count (λ q. eqb (q .room) c) (take queued queue))
             0
             times
             (k .long)
-            (λ c h. k .at c h ∙ prefix-all (λ q. eqb (q .room) c) queue queued 16 (omega arith)),
+            (λ c h. k .at c h ∙ prefix-all (λ q. eqb (q .room) c) queue queued queueLimit (omega arith)),
       )
 
-  -- a place that is fine and in use names a room that waits, and so one of the sixteen
+  -- a place that is fine and in use names a room that waits, and so one below the limit
   due-is : (q : Queued) → queuedFine n (roomsOf rooms) q ≡ true → (isMode (q .mode) ≡ true) × (eqb (standingAt rooms (q .room) .due) (q .mode) ≡ true)
   unfolding queuedFine due
   due-is q f =
@@ -90,15 +92,15 @@ module _ (n : ℕ) (rooms : List Standing) (queue : List Queued) (queued : ℕ) 
         and-right (ltb (q .room) n && isMode (q .mode)) test f,
       )
 
-  pub names-low : length rooms ≡ 16 → (i : ℕ) → i < queued → queuePlaceFine n rooms (ltb i queued) (getD queue i noQueued) ≡ true
-      → getD queue i noQueued .room < 16
+  pub names-low : length rooms ≡ roomLimit → (i : ℕ) → i < queued → queuePlaceFine n rooms (ltb i queued) (getD queue i noQueued) ≡ true
+      → getD queue i noQueued .room < roomLimit
   unfolding queuePlaceFine
-  names-low long i h f = go (below? (q .room) 16) (due-is q (simp (lt-ltb i queued h) at f))
+  names-low long i h f = go (below? (q .room) roomLimit) (due-is q (simp (lt-ltb i queued h) at f))
     where
       q : Queued
       q = getD queue i noQueued
 
-      go : (q .room < 16) ⊎ (16 ≤ q .room) → (isMode (q .mode) ≡ true) × (eqb (standingAt rooms (q .room) .due) (q .mode) ≡ true) → q .room < 16
+      go : (q .room < roomLimit) ⊎ (roomLimit ≤ q .room) → (isMode (q .mode) ≡ true) × (eqb (standingAt rooms (q .room) .due) (q .mode) ≡ true) → q .room < roomLimit
       go (inl l) w = l
       go (inr l) w =
           let e : eqb 0 (q .mode) ≡ true = rw (← standing-past rooms (q .room) long l) at (w .1) in

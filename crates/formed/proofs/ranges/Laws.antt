@@ -1,11 +1,13 @@
 -- A law for each branch of the tests of ranges, over plain numbers.
 use mathlib.Core.Path.{_≡_}
 use mathlib.Core.Bool.{true, false, and-false}
-use Prim.Native.Nat.{ℕ, _≤_, _<_}
+use Prim.Native.Nat.{ℕ, suc, _≤_, _<_}
 use native.Mathlib.Omega.{arith}
 use lib.Dec.{leb, eqb}
 use borrow.Author.Tests.{le-leb, lt-leb, eq-eqb, ne-eqb, eqb-false}
 use Rattle.base.specs.Choice.{split}
+use Rattle.room.specs.Limits.{roomLimit}
+use Rattle.table.specs.Limits.{queueLimit, wireLimit}
 use Rattle.table.specs.Formed.{isMode, sizesFit}
 use Rattle.formed.specs.Parts.{isGranted}
 
@@ -36,15 +38,15 @@ module _ (n queued count : ℕ) where
   unfolding sizesFit
   sizes-none h = simp (lt-leb 1 n h)
 
-  pub sizes-many : 17 ≤ n → false ≡ sizesFit n queued count
+  pub sizes-many : roomLimit < n → false ≡ sizesFit n queued count
   unfolding sizesFit
-  sizes-many h = simp (lt-leb n 16 (omega arith), and-false)
+  sizes-many h = simp (lt-leb n roomLimit h, and-false)
 
-  module _ (low : 1 ≤ n) (high : n < 17) where
-    pub sizes-queue : 16 < queued → leb queued 16 ≡ sizesFit n queued count
+  module _ (low : 1 ≤ n) (high : n < suc roomLimit) where
+    pub sizes-queue : queueLimit < queued → leb queued queueLimit ≡ sizesFit n queued count
     unfolding sizesFit
-    sizes-queue h = simp (lt-leb queued 16 h, and-false)
+    sizes-queue h = simp (lt-leb queued queueLimit h, and-false)
 
-    pub sizes-count : queued ≤ 16 → leb count 256 ≡ sizesFit n queued count
+    pub sizes-count : queued ≤ queueLimit → leb count wireLimit ≡ sizesFit n queued count
     unfolding sizesFit
-    sizes-count h = simp (le-leb 1 n low, le-leb n 16 (omega arith), le-leb queued 16 h)
+    sizes-count h = simp (le-leb 1 n low, le-leb n roomLimit (omega arith), le-leb queued queueLimit h)

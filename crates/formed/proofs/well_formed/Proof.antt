@@ -3,6 +3,7 @@ use native.Mathlib.Omega.{arith}
 use mathlib.Core.Path.{_≡_}
 use mathlib.Core.Logic.{⊎-elim}
 use Prim.Native.Nat.{_-_}
+use Rattle.table.specs.Limits.{wireLimit}
 use Rattle.table.proofs.Known.{wires-long}
 use Rattle.formed.proofs.Counted.{counted-raised, counted-kept}
 use Rattle.formed.proofs.Looked.{Looked, fit-rooms, ill-sizes, looked-times, looked-tokens, looked-ill, names-next, looked-next, well-not, well-so}
@@ -14,7 +15,7 @@ abbrev Inv-loop : tie.InvT-loop
 Inv-loop t n queued count standings times₀ tokens₀ i₀ times tokens i = Looked t standings times tokens i
 
 abbrev μ-loop : tie.MeasureT-loop
-μ-loop t n queued count standings times₀ tokens₀ i₀ times tokens i = 256 - i
+μ-loop t n queued count standings times₀ tokens₀ i₀ times tokens i = wireLimit - i
 
 sizes-fit-requires : tie.Need-sizes-fit-requires Inv-loop μ-loop
 sizes-fit-requires c κs = search needs
@@ -96,13 +97,13 @@ times-fine-requires c κs = fit-rooms _ _ _ (c .before .before .loop .inv .sizes
 returns-5 : tie.Need-returns-5 Inv-loop μ-loop
 returns-5 c =
     let k = c .before .before .before .loop in
-    let e : k .i ≡ 256 = omega arith in
+    let e : k .i ≡ wireLimit = omega arith in
     well-so _ _ _ _ (rw e at (k .inv)) (c .before .if6 .taken) _ (c .times-fine .ensures)
 
 returns-6 : tie.Need-returns-6 Inv-loop μ-loop
 returns-6 c =
     let k = c .before .before .loop in
-    let e : k .i ≡ 256 = omega arith in
+    let e : k .i ≡ wireLimit = omega arith in
     well-not _ _ _ _ (rw e at (k .inv)) (c .if6 .left)
 
 pub well-formed-spec : {M : Type 1} → statement M

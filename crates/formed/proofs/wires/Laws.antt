@@ -6,6 +6,7 @@ use Prim.Native.Nat.{ℕ, _≤_, _<_}
 use lib.Dec.{ltb, eqb}
 use borrow.Author.Tests.{lt-ltb, le-ltb, eq-eqb, ne-eqb, not-true, not-false}
 use Rattle.modes.specs.Codes.{isCode}
+use Rattle.room.specs.Limits.{roomLimit}
 use Rattle.table.specs.declared.Wire.{Wire}
 use Rattle.table.specs.declared.Message.{Message}
 use Rattle.table.specs.declared.Message.the-variants as msg
@@ -137,7 +138,7 @@ module _ (w : Wire) where
 
 -- the room that a message names, and its tokens
 module _ (to : ℕ) (m : Message) where
-  pub carried-nothing : m ≡ msg.Nothing → record { room = 16; tokens = 0 } ≡ carriedBy to m
+  pub carried-nothing : m ≡ msg.Nothing → record { room = roomLimit; tokens = 0 } ≡ carriedBy to m
   unfolding carriedBy
   carried-nothing e = rw e
 
@@ -153,6 +154,6 @@ module _ (to : ℕ) (m : Message) where
   unfolding carriedBy
   carried-token k rest l e = rw e
 
-  pub carried-reduce : (l k : ℕ) → m ≡ msg.Reduce l k → record { room = 16; tokens = 0 } ≡ carriedBy to m
+  pub carried-reduce : (l k : ℕ) → m ≡ msg.Reduce l k → record { room = roomLimit; tokens = 0 } ≡ carriedBy to m
   unfolding carriedBy
   carried-reduce l k e = rw e

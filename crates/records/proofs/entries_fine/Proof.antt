@@ -8,6 +8,7 @@ use Prim.Native.Nat.{ℕ, _≤_, _-_}
 use lib.ListN.{getD}
 use Rattle.base.specs.Below.{allBelow, all-more, all-fails}
 use Rattle.room.specs.declared.Entry.{Entry}
+use Rattle.room.specs.Limits.{roomLimit}
 use Rattle.room.specs.Record.{noEntry}
 use Rattle.table.specs.Formed.{entryFine}
 use Rattle.records.proofs.Laws.{entries-all}
@@ -19,10 +20,10 @@ abbrev test : ℕ → ℕ → List Entry → ℕ → Bool
 test n c entries j = entryFine n c j (getD entries j noEntry)
 
 abbrev Inv-loop : tie.InvT-loop
-Inv-loop n c entries j₀ j = (j ≤ 16) × (allBelow j (test n c entries) ≡ true)
+Inv-loop n c entries j₀ j = (j ≤ roomLimit) × (allBelow j (test n c entries) ≡ true)
 
 abbrev μ-loop : tie.MeasureT-loop
-μ-loop n c entries j₀ j = 16 - j
+μ-loop n c entries j₀ j = roomLimit - j
 
 loop-holds : tie.Need-loop-holds Inv-loop μ-loop
 loop-holds c = (search needs, refl)
@@ -43,7 +44,7 @@ returns : tie.Need-returns Inv-loop μ-loop
 returns c =
     let s = c .before .before .before .before .before .args in
     let bad = sym (c .before .entry-fine .ensures) ∙ not-true _ (c .if1 .taken) in
-    sym (all-fails (test (s .n) (s .c) (s .t3)) 16 (c .before .before .before .before .loop .j) (omega arith) bad) ∙ entries-all _ _ _
+    sym (all-fails (test (s .n) (s .c) (s .t3)) roomLimit (c .before .before .before .before .loop .j) (omega arith) bad) ∙ entries-all _ _ _
 
 add-j : tie.Need-add-j Inv-loop μ-loop
 add-j c = search needs
@@ -59,7 +60,7 @@ loop-again c =
 
 returns-2 : tie.Need-returns-2 Inv-loop μ-loop
 returns-2 c =
-    let e : c .before .loop .j ≡ 16 = omega arith in
+    let e : c .before .loop .j ≡ roomLimit = omega arith in
     sym (rw e at (c .before .loop .inv .1)) ∙ entries-all _ _ _
 
 pub entries-fine-spec : {M : Type 1} → statement M

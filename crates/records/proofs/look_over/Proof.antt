@@ -10,6 +10,7 @@ use lib.ListN.{getD}
 use Rattle.base.specs.Below.{allBelow, all-more}
 use Rattle.base.specs.Sums.{countBelow, count-below-le, sum-none}
 use Rattle.room.specs.declared.Room.{Room}
+use Rattle.room.specs.Limits.{roomLimit}
 use Rattle.room.specs.Record.{noRoom}
 use Rattle.records.specs.Parts.{roomPlaceFine}
 use Rattle.records.proofs.Lists.{count-one, count-same}
@@ -26,13 +27,13 @@ hasToken rooms c = getD rooms c noRoom .token
 
 abbrev Inv-loop : tie.InvT-loop
 Inv-loop n rooms none standings₀ tokens₀ c₀ standings tokens c =
-    (c ≤ 16)
+    (c ≤ roomLimit)
     × (allBelow c (test n rooms) ≡ true)
     × (tokens ≡ countBelow c (hasToken rooms))
     × Filled rooms standings c
 
 abbrev μ-loop : tie.MeasureT-loop
-μ-loop n rooms none standings₀ tokens₀ c₀ standings tokens c = 16 - c
+μ-loop n rooms none standings₀ tokens₀ c₀ standings tokens c = roomLimit - c
 
 loop-holds : tie.Need-loop-holds Inv-loop μ-loop
 loop-holds c = (search needs, refl, sym (sum-none _), filled-none _)
@@ -90,7 +91,7 @@ loop-again c =
 returns-2 : tie.Need-returns-2 Inv-loop μ-loop
 returns-2 c =
     let k = c .before .loop in
-    let e : k .c ≡ 16 = omega arith in
+    let e : k .c ≡ roomLimit = omega arith in
     seen-all _ _ (rw e at (k .inv .1)) _ (rw e at (k .inv .2)) _ (rw e at (k .inv .3))
 
 pub look-over-spec : {M : Type 1} → statement M

@@ -1,5 +1,6 @@
 use borrow.Author.Needs.{needs}
 use Prim.Native.Nat.{_≤_, _-_}
+use Rattle.room.specs.Limits.{roomLimit}
 use Rattle.drains.proofs.choice.first_room.Statement.{statement}
 use Rattle.drains.proofs.choice.first_room.Tie as tie
 
@@ -7,7 +8,7 @@ abbrev Inv-loop : tie.InvT-loop
 Inv-loop waiting t c₀ c = c₀ ≤ c
 
 abbrev μ-loop : tie.MeasureT-loop
-μ-loop waiting t c₀ c = 16 - c
+μ-loop waiting t c₀ c = roomLimit - c
 
 loop-holds : tie.Need-loop-holds Inv-loop μ-loop
 loop-holds c = search needs

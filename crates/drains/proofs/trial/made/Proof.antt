@@ -4,10 +4,13 @@ use Rattle.drains.proofs.trial.made.Statement.{statement}
 use Rattle.drains.proofs.trial.made.Tie as tie
 
 abbrev Inv-loop : tie.InvT-loop
-Inv-loop order seed events t₀ r₀ i₀ t r i = i₀ ≤ i
+Inv-loop order seed events starved t₀ r₀ i₀ t r i = i₀ ≤ i
 
 abbrev μ-loop : tie.MeasureT-loop
-μ-loop order seed events t₀ r₀ i₀ t r i = events - i
+μ-loop order seed events starved t₀ r₀ i₀ t r i = events - i
+
+element-copy-out-starved : tie.Need-element-copy-out-starved Inv-loop μ-loop
+element-copy-out-starved c = search needs
 
 loop-holds : tie.Need-loop-holds Inv-loop μ-loop
 loop-holds c = search needs
@@ -42,6 +45,7 @@ made-spec =
     (tie.spec
     Inv-loop
     μ-loop
+    element-copy-out-starved
     loop-holds
     after-requires
     next-requires

@@ -9,7 +9,9 @@ use Prim.Native.Nat.{ℕ, _≤_, _<_, _-_}
 use lib.ListN.{getD}
 use lib.Dec.{ltb}
 use Rattle.base.specs.Below.{allBelow, all-more}
+use Rattle.room.specs.Limits.{roomLimit}
 use Rattle.table.specs.declared.Queued.{Queued}
+use Rattle.table.specs.Limits.{queueLimit}
 use Rattle.table.specs.Tables.{noQueued}
 use Rattle.records.specs.declared.Standing.{Standing}
 use Rattle.formed.specs.Parts.{queuePlaceFine}
@@ -24,10 +26,10 @@ test n rooms queue queued i = queuePlaceFine n rooms (ltb i queued) (getD queue 
 
 abbrev Inv-loop : tie.InvT-loop
 Inv-loop n rooms queued queue times₀ i₀ times i =
-    (i ≤ 16) × (allBelow i (test n rooms queue queued) ≡ true) × Counted times (placesNaming queue queued i)
+    (i ≤ queueLimit) × (allBelow i (test n rooms queue queued) ≡ true) × Counted times (placesNaming queue queued i)
 
 abbrev μ-loop : tie.MeasureT-loop
-μ-loop n rooms queued queue times₀ i₀ times i = 16 - i
+μ-loop n rooms queued queue times₀ i₀ times i = queueLimit - i
 
 loop-holds : tie.Need-loop-holds Inv-loop μ-loop
 loop-holds c = (search needs, refl, naming-none _ _)
@@ -48,9 +50,9 @@ returns c =
 cast-at : tie.Need-cast-at Inv-loop μ-loop
 cast-at c = search needs
 
--- a place that is fine and in use names one of the sixteen rooms
+-- a place that is fine and in use names a room below the limit
 at-low : (c : tie.After-struct-known Inv-loop μ-loop)
-    → getD (c .before .before .before .before .before .before .before .args .t3) (c .before .before .before .before .before .before .loop .i) noQueued .room < 16
+    → getD (c .before .before .before .before .before .before .before .args .t3) (c .before .before .before .before .before .before .loop .i) noQueued .room < roomLimit
 at-low c =
     let b = c .before .before .before .before .before .before .before in
     let fine = sym (c .before .before .before .place-fine .ensures) ∙ not-false _ (c .before .before .if1 .left) in
@@ -92,14 +94,14 @@ loop-again c =
       all-more (test (b .args .n) (b .args .rooms) (b .args .t3) (b .args .queued)) (k .i) (k .inv .1) fine,
       ⊎-elim
           (λ w. counted-raised _ _ _ (k .inv .2) _ (used (w .0 .taken)) _ (low (w .0 .taken) fine) (w .2))
-          (λ w. counted-kept _ _ _ (k .inv .2) 16 (unused (w .0 .left)) _ (omega arith) (w .1))
+          (λ w. counted-kept _ _ _ (k .inv .2) roomLimit (unused (w .0 .left)) _ (omega arith) (w .1))
           (c .if2 .came),
     )
 
 returns-2 : tie.Need-returns-2 Inv-loop μ-loop
 returns-2 c =
     let k = c .before .loop in
-    let e : k .i ≡ 16 = omega arith in
+    let e : k .i ≡ queueLimit = omega arith in
     named-all _ _ _ _ (c .before .before .good .1 .1 .0 .1 .0 .1) (rw e at (k .inv .1)) _ (rw e at (k .inv .2))
 
 pub look-over-spec : {M : Type 1} → statement M

@@ -1,5 +1,6 @@
 use borrow.Author.Needs.{needs}
 use Prim.Native.Nat.{_≤_, _-_}
+use Rattle.table.specs.Limits.{wireLimit}
 use Rattle.vectors.proofs.change.with_reduces.Statement.{statement}
 use Rattle.vectors.proofs.change.with_reduces.Tie as tie
 
@@ -7,7 +8,7 @@ abbrev Inv-loop : tie.InvT-loop
 Inv-loop t₀ count w i₀ t i = i₀ ≤ i
 
 abbrev μ-loop : tie.MeasureT-loop
-μ-loop t₀ count w i₀ t i = 256 - i
+μ-loop t₀ count w i₀ t i = wireLimit - i
 
 loop-holds : tie.Need-loop-holds Inv-loop μ-loop
 loop-holds c = search needs
