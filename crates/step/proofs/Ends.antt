@@ -13,6 +13,7 @@ use Rattle.base.specs.Choice.{split}
 use Rattle.base.specs.Tests.{and-right}
 use Rattle.base.specs.Sums.{same?, below?}
 use Rattle.table.specs.declared.Table.{Table}
+use Rattle.table.specs.declared.Answer.{Answer}
 use Rattle.table.specs.Limits.{wireLimit}
 use Rattle.table.specs.Tables.{answer}
 use Rattle.table.proofs.Table as tables
@@ -122,3 +123,7 @@ module _ (t : Table) {vs : List Val} (g : Is tables.the-row t vs) (e : Event) (f
             (ap (answer 0)
             (w ∙ written-writes t p (made .takes) long (omega (arith, made .sent, plan-out-long p o)) (step-fits z .room) (made .blank) (made .work) (made .me) (made .few) (made .done)))
             ∙ made .step
+
+-- what was told is right
+pub told-right : (formed : Bool) (t : Table) (e : Event) (r : Answer) → formed ≡ wellFormed t → (formed ≡ wellFormed t → r ≡ stepOf t e) → r ≡ stepOf t e
+told-right formed t e r right h = h right

@@ -1,3 +1,4 @@
+use Rattle.step.proofs.Ends.{told-right}
 use borrow.Author.Needs.{needs}
 use Rattle.step.proofs.step.Statement.{statement}
 use Rattle.step.proofs.step.Tie as tie
@@ -9,7 +10,7 @@ step-untested-requires : tie.Need-step-untested-requires
 step-untested-requires c κs = search needs
 
 returns : tie.Need-returns
-returns c = c .step-untested .ensures .1 (c .before .well-formed .ensures)
+returns c = search (needs, told-right)
 
 pub step-spec : {M : Type 1} → statement M
 step-spec = tie.close (tie.spec well-formed-requires step-untested-requires returns)
