@@ -11,7 +11,7 @@ use Rattle.table.specs.Tables.{answer, freshTable, freshOf}
 use Rattle.rules.specs.declared.Event.{Event}
 use Rattle.rules.specs.Step.{runs}
 use Rattle.safe.specs.Reached.{Reached}
-use Rattle.safe.specs.Always.{demand3, reached-formed, reached-few}
+use Rattle.safe.specs.Always.{demand3, reached-formed, reached-few, delivery-accepted, hand-back-accepted}
 use Rattle.run.specs.Runs.{continued, ranOf, Holds, Ran}
 
 -- a fresh table of 1 to 16 rooms is not refused
@@ -23,7 +23,14 @@ fresh-is n some most = rw (le-leb 1 n some, le-leb n roomLimit most)
 run-holds : (n : ℕ) (events : List Event) → 1 ≤ n → n ≤ roomLimit → Holds n (runs (freshTable n) events)
 run-holds n events some most =
     let r : Reached n (runs (freshTable n) events) = record { some = some; most = most; events = events; leads = refl } in
-    record { reached = r; demand3 = demand3 n _ r; formed = reached-formed n _ r; few = reached-few n _ r }
+    record {
+      reached = r;
+      demand3 = demand3 n _ r;
+      formed = reached-formed n _ r;
+      few = reached-few n _ r;
+      delivers = delivery-accepted n _ r;
+      hands-back = hand-back-accepted n _ r;
+    }
 
 module _ (n : ℕ) (events : List Event) (a : Answer) (e : a ≡ freshOf n) where
   pub run-refused : (a .«number» ≡ 0 → ⊥) → Ran n events a

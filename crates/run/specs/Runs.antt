@@ -1,6 +1,7 @@
 -- A run of events from a fresh table: what is given back, and what holds of the table.
-use Prim.Native.Nat.{ℕ, _+_, _≤_}
+use Prim.Native.Nat.{ℕ, _+_, _≤_, _<_}
 use mathlib.Core.Path.{_≡_}
+use mathlib.Core.Logic.{_≢_}
 use mathlib.Core.Bool.{true}
 use mathlib.Core.List.{List, [], _∷_}
 use lib.Dec.{eqb}
@@ -10,10 +11,14 @@ use Rattle.room.specs.Limits.{roomLimit}
 use Rattle.table.specs.declared.Table.{Table}
 use Rattle.table.specs.declared.Answer.{Answer}
 use Rattle.table.specs.Numbers.{DONE}
-use Rattle.table.specs.Tables.{answer, freshOf}
+use Rattle.table.specs.Tables.{roomAt, answer, freshOf}
+use Rattle.table.specs.declared.Message.{Message}
+use Rattle.table.specs.declared.Found.the-variants as found
+use Rattle.table.specs.Oldest.{oldestOf}
 use Rattle.table.specs.Formed.{wellFormed}
 use Rattle.rules.specs.declared.Event.{Event}
-use Rattle.rules.specs.Step.{runs}
+use Rattle.rules.specs.Events.{HANDBACK, DELIVER}
+use Rattle.rules.specs.Step.{stepOf, runs}
 use Rattle.safe.specs.Reached.{Reached, Demand3}
 
 -- events in bytes, four for each: kind, room, other and mode; what is left at the end is no event
@@ -47,6 +52,11 @@ pub record Holds (n : ℕ) (t : Table) : Type 0 where
   pub demand3 : Demand3 n t
   pub formed : wellFormed t ≡ true
   pub few : t .count ≤ mostMessages
+  -- no 10 and no 11: a delivery on a wire with a message is accepted,
+  pub delivers : (e : Event) → e .kind ≡ DELIVER → (k : ℕ) (m : Message) → oldestOf t (e .room) (e .other) ≡ found.At k m → stepOf t e .«number» ≡ DONE
+  -- and a hand-back by a room that holds and does not wait
+  pub hands-back : (e : Event) → e .kind ≡ HANDBACK → e .room < n → roomAt t (e .room) .held ≢ 0 → roomAt t (e .room) .wanted ≡ 0
+      → stepOf t e .«number» ≡ DONE
 
 -- What a run gives back.
 pub record Ran (n : ℕ) (events : List Event) (r : Answer) : Type 0 where
