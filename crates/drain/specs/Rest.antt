@@ -20,6 +20,7 @@ use Rattle.room.specs.declared.Entry.{Entry}
 use Rattle.room.specs.Limits.{roomLimit}
 use Rattle.room.specs.Record.{entryAt}
 use Rattle.room.specs.Owned.{owned, hasNoEntries}
+use Rattle.room.specs.Owning.{owned-none}
 use Rattle.table.specs.declared.Table.{Table}
 use Rattle.table.specs.declared.Queued.{Queued}
 use Rattle.table.specs.Tables.{roomAt, queueOf}
@@ -30,7 +31,6 @@ use Rattle.facts.specs.Moments.{QueuedFacts}
 use Rattle.ledger.specs.Loans.{debt}
 use Rattle.ledger.specs.Debts.{debt-here, debt-none}
 use Rattle.owning.specs.Clauses.{Blocked}
-use Rattle.owning.specs.Owned.{owned-none}
 use Rattle.safe.specs.Invariant.{Invariant}
 use Rattle.safe.specs.Reached.{Reached}
 use Rattle.safe.specs.Step.{Safe}

@@ -1,7 +1,6 @@
 -- ASK, UPGRADE and HANDBACK keep a moment whole.
 use mathlib.Core.Path.{_≡_, refl, sym, _∙_, ap}
-use mathlib.Core.Logic.{_≢_}
-use mathlib.Core.Bool.{true, false, _&&_, false≢true}
+use mathlib.Core.Bool.{true, false, _&&_}
 use mathlib.Core.List.{List, _++_}
 use Prim.Native.Nat.{ℕ, _≤_}
 use native.Mathlib.Omega.{arith}
@@ -12,8 +11,7 @@ use Rattle.base.specs.Tests.{clash}
 use Rattle.base.specs.Sums.{one}
 use Rattle.modes.specs.Codes.{U, W}
 use Rattle.modes.specs.Modes.{agrees, canLend}
-use Rattle.modes.specs.Under.{small}
-use Rattle.modes.proofs.Laws.{lends-small}
+use Rattle.modes.proofs.Laws.{lends-small, small-weak}
 use Rattle.room.specs.declared.Room.{Room}
 use Rattle.room.specs.Record.{withModes}
 use Rattle.room.specs.Owned.{owned, hasNoEntries}
@@ -39,11 +37,6 @@ due-none r e = by-test (λ (m : ℕ). m ≡ 0) (eqb (r .held) 0) (r .wanted) 0 (
 due-wanted : (r : Room) → r .held ≡ 0 → due r ≡ r .wanted
 unfolding due
 due-wanted r e = simp (eq-eqb (r .held) 0 e)
-
--- what is lent is neither U nor W
-loan-weak : (a m : ℕ) → canLend a m ≡ true → (m ≢ U) × (m ≢ W)
-unfolding small
-loan-weak a m h = (λ e. absurd (false≢true (rw e at (lends-small a m h))), λ e. absurd (false≢true (rw e at (lends-small a m h))))
 
 module _ (n : ℕ) (rooms : ℕ → Room) (kept : List Wire) (w : Work) (a : Whole n rooms kept w) (idle : w .room .wanted ≡ 0) where
   facts : RoomFacts n (w .me) (w .room)
@@ -92,7 +85,7 @@ module _ (n : ℕ) (rooms : ℕ → Room) (kept : List Wire) (w : Work) (a : Who
     unfolding askWithout want
     ask-without-kept without =
         by-test (Whole n rooms kept) (canLend (owned (w .room)) m) (hold w m) (send (want w m) (w .room .toward) (msg.Request (w .me) m (eqb (owned (w .room)) 0)))
-        (λ e. let weak = loan-weak (owned (w .room)) m e in
+        (λ e. let weak = small-weak m (lends-small (owned (w .room)) m e) in
         hold-kept m code (held-waits (w .room) m some) (λ u. absurd (weak .0 u)) (λ u. absurd (weak .1 u)))
         (λ e. put-request n rooms kept (want w m) (w .room .toward) (facts .toward-low) (λ k. clash (facts .toward-token k) without)
         (w .me) m (eqb (owned (w .room)) 0) (a .low) some code want-due

@@ -16,14 +16,14 @@ use Rattle.room.specs.declared.Room.{Room}
 use Rattle.room.specs.Limits.{roomLimit}
 use Rattle.room.specs.Record.{noEntry, entryOf, withDebt, withCounter, setEntry}
 use Rattle.room.specs.Owned.{owned}
+use Rattle.room.specs.Owning.{owned-held}
 use Rattle.room.specs.Rules.{nextLink, isWorn, lentTo, lent, left, remaining, passedTo, passed}
 use Rattle.table.specs.declared.Wire.{Wire}
 use Rattle.table.specs.Formed.{due}
 use Rattle.rules.specs.Work.{Work, withRoom, withWorn}
 use Rattle.rules.specs.Rules.{lend, pass}
-use Rattle.facts.specs.Rooms.{RoomFacts}
+use Rattle.facts.specs.Rooms.{RoomFacts, owned-code}
 use Rattle.kept.specs.Changed.{changed, changed-elsewhere}
-use Rattle.kept.specs.Owns.{owned-code, owned-held}
 use Rattle.kept.specs.Records.{counter-facts, lost-facts, owing-facts, entry-set-facts}
 use Rattle.kept.specs.Acts.{At, Whole, now, only, own-room, set-alike, set-passing}
 use Rattle.kept.specs.Sends.{put-grant, put-token}

@@ -13,7 +13,7 @@ use Rattle.base.specs.Choice.{by-test, split}
 use Rattle.base.specs.Sums.{same?}
 use Rattle.base.specs.Lists.{Mem}
 use Rattle.base.specs.Folds.{folds, folds-still}
-use Rattle.modes.specs.Modes.{isStronger}
+use Rattle.modes.proofs.Laws.{stronger-larger}
 use Rattle.room.specs.declared.Room.{Room}
 use Rattle.room.specs.declared.Entry.{Entry}
 use Rattle.room.specs.Limits.{roomLimit, nobody}
@@ -142,8 +142,9 @@ module _ (n : ℕ) (old new : ℕ → Room) (messages : List Wire) (me : ℕ) (o
 
     -- the REDUCE lowers the loan that it is of,
     lowered : flush (record { mode = old me .credit; link = old me .link }) (msg.Reduce (old me .link) m) ≡ entryOf m (old me .link)
-    unfolding flush isStronger
-    lowered = simp (eq-eqb (old me .link) (old me .link) refl, lt-ltb m (old me .credit) falls)
+    unfolding flush
+    lowered =
+        simp (eq-eqb (old me .link) (old me .link) refl, sym (stronger-larger (old me .credit) m) ∙ lt-ltb m (old me .credit) falls)
 
     -- and leaves a newer one, and none
     newer : (w : Wire) → Mem w messages → between lender me w ≡ true → (v : Message) → w .message ≡ v → isSetting v ≡ true

@@ -9,11 +9,11 @@ use lib.ListN.{length}
 use borrow.Author.Tests.{eqb-true}
 use Rattle.base.specs.Choice.{by-test}
 use Rattle.base.specs.Tests.{clash}
-use Rattle.base.specs.Sums.{same?, below?}
-use Rattle.modes.specs.Codes.{none, IR, U, IW, W}
+use Rattle.base.specs.Sums.{same?}
+use Rattle.modes.specs.Codes.{none, IR}
 use Rattle.modes.specs.Modes.{isStronger, canLend}
 use Rattle.modes.specs.Under.{under, small}
-use Rattle.modes.proofs.Laws.{stronger-true, stronger-false, low-small, under-small-falls}
+use Rattle.modes.proofs.Laws.{stronger-true, stronger-false, weak-small, under-small-falls}
 use Rattle.room.specs.declared.Room.{Room}
 use Rattle.room.specs.Limits.{roomLimit, nobody}
 use Rattle.room.specs.Record.{entryOf, entryAt, withModes, withDebt, setEntry}
@@ -35,17 +35,8 @@ pub record ExactBut (x n : ℕ) (rooms : ℕ → Room) : Type 0 where
 
 -- a room without the token holds neither U nor W, so it owns a small mode
 pub owned-weak : (n c : ℕ) (r : Room) → RoomFacts n c r → r .token ≡ false → SmallEntries r → small (owned r) ≡ true
-unfolding small
-owned-weak n c r f without entries = owned-small r entries (held (below? (r .held) U))
-  where
-    other : (m : ℕ) → (r .held ≡ m → r .token ≡ true) → r .held ≢ m
-    other m g e = clash (g e) without
-
-    held : (r .held < U) ⊎ (U ≤ r .held) → small (r .held) ≡ true
-    held (inl h) = low-small (r .held) (omega arith)
-    held (inr h) =
-        let k : r .held ≡ IW = omega (arith, f .held-code, other U (f .U-token), other W (f .W-token)) in
-        rw k refl
+owned-weak n c r f without entries =
+    owned-small r entries (weak-small (r .held) (f .held-code) (λ e. clash (f .U-token e) without) (λ e. clash (f .W-token e) without))
 
 -- where what is owned is not weaker than what is owed there is nothing to settle
 pub exact-still : (x n : ℕ) (rooms : ℕ → Room) → ExactBut x n rooms → isStronger (rooms x .credit) (owned (rooms x)) ≡ false → Exact n rooms

@@ -17,11 +17,11 @@ use Rattle.modes.proofs.Laws.{agrees-sym, past-agrees, agrees-W}
 use Rattle.room.specs.declared.Room.{Room}
 use Rattle.room.specs.Record.{withModes, withDebt}
 use Rattle.room.specs.Owned.{owned, hasNoEntries}
+use Rattle.room.specs.Owning.{owned-held}
 use Rattle.room.specs.Rules.{nextLink, lent, lentTo, left, remaining, passed, passedTo}
 use Rattle.table.specs.declared.Queued.{Queued}
 use Rattle.rules.specs.Work.{Work, send}
 use Rattle.rules.specs.Rules.{hold, lend, pass, upgradeWaits, upgraded, serveQueue, serve, isEmpty}
-use Rattle.kept.specs.Owns.{owned-held}
 use Rattle.owning.specs.Clauses.{Blocked, UpgradeServed, HeadServed, Served}
 use Rattle.owning.specs.Changes.{same-owned, wanted-same}
 use Rattle.owning.specs.Blocked.{blocked-same, blocked-ask}

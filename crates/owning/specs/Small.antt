@@ -6,7 +6,7 @@ use mathlib.Core.List.{List, [], _∷_, _++_}
 use Prim.Native.Nat.{ℕ, _≤_, _<_}
 use native.Mathlib.Omega.{arith}
 use lib.ListN.{length, getD}
-use Rattle.base.specs.Sums.{same?, below?}
+use Rattle.base.specs.Sums.{same?}
 use Rattle.base.specs.Lists.{remove, mem-at, mem-remove}
 use Rattle.modes.specs.Codes.{none, IR, R}
 use Rattle.modes.specs.Modes.{agrees, canLend}
@@ -16,6 +16,7 @@ use Rattle.room.specs.declared.Room.{Room}
 use Rattle.room.specs.Limits.{roomLimit}
 use Rattle.room.specs.Record.{entryOf, entryAt, withModes, withDebt, setEntry}
 use Rattle.room.specs.Owned.{owned}
+use Rattle.room.specs.Owning.{owned-either}
 use Rattle.room.specs.Rules.{lentTo, remaining, passedTo, credited, tokenedBy, reduced}
 use Rattle.table.specs.declared.Wire.{Wire}
 use Rattle.table.specs.declared.Message.the-variants as msg
@@ -23,7 +24,7 @@ use Rattle.table.specs.Tables.{noWire}
 use Rattle.facts.specs.Wires.{wire, leavingSent}
 use Rattle.owning.specs.Parts.{part}
 use Rattle.owning.specs.Clauses.{ReduceSmall, Small}
-use Rattle.owning.specs.Owned.{part-entry, part-held, part-owned, owned-any}
+use Rattle.owning.specs.Owned.{part-entry, part-owned, owned-any}
 use Rattle.owning.specs.Changes.{Falls, Alters, same-falls, credited-same, lent-alters, passed-alters, passed-owned, reduced-falls, tokened-entry, tokened-held}
 use Rattle.owning.specs.Weaker.{passed-falls}
 use Rattle.owning.specs.Messages.{Among, sent-among, leaving-among, leavingWire, kind}
@@ -54,11 +55,7 @@ module _ (r s : Room) (k : SmallEntries r) where
 
 -- what a room owns is small, if its entries are and what it holds
 pub owned-small : (r : Room) → SmallEntries r → small (r .held) ≡ true → small (owned r) ≡ true
-owned-small r entries held = owned-any r (λ (m : ℕ). small m ≡ true) (λ i h. go i h (below? i roomLimit))
-  where
-    go : (i : ℕ) → i ≤ roomLimit → (i < roomLimit) ⊎ (roomLimit ≤ i) → small (part r i) ≡ true
-    go i h (inl l) = rw (part-entry r i l) (entries i l)
-    go i h (inr l) = let k : i ≡ roomLimit = omega arith in rw (k, part-held r) held
+owned-small r entries held = owned-either r (λ (m : ℕ). small m ≡ true) held entries
 
 -- other messages: only the new one has to be looked at
 small-among : (n : ℕ) (rooms : ℕ → Room) (before after : List Wire) (x : Wire) → Among after before x

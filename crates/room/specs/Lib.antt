@@ -1,4 +1,5 @@
 pub mod Limits
 pub mod Record
 pub mod Owned
+pub mod Owning
 pub mod Rules

@@ -13,6 +13,7 @@ use Rattle.room.specs.declared.Entry.{Entry}
 use Rattle.room.specs.Limits.{roomLimit, nobody}
 use Rattle.room.specs.Record.{entryAt}
 use Rattle.room.specs.Owned.{owned}
+use Rattle.room.specs.Owning.{owned-entry}
 use Rattle.table.specs.declared.Wire.{Wire}
 use Rattle.table.specs.declared.Message.the-variants as msg
 use Rattle.table.specs.Formed.{messageFine, isNamedIn}
@@ -21,7 +22,6 @@ use Rattle.facts.specs.Moments.{MessageFacts}
 use Rattle.kept.specs.Delivers.{grant-modes}
 use Rattle.ledger.specs.Loans.{debt, owed, flushed, Ledger}
 use Rattle.owning.specs.Clauses.{Small}
-use Rattle.owning.specs.Owned.{entry-owned}
 use Rattle.owning.specs.Falls.{under-none}
 use Rattle.tree.specs.Tree.{NoTokenTo}
 use Rattle.tree.specs.Folds.{GrantOn, TokenOn, token-told, owed-by, owed-grant, flushed-by}
@@ -43,7 +43,7 @@ module _ (n : ℕ) (rooms : ℕ → Room) (messages : List Wire) (limit : n ≤ 
       (flushed-by y c (entryAt (rooms y) c) messages (small .new))
     where
       entry : entryAt (rooms y) c .mode ≡ 0
-      entry = omega (arith, entry-owned (rooms y) c (omega arith))
+      entry = omega (arith, owned-entry (rooms y) c (omega arith))
 
   -- so nobody owes it anything
   owed-none : (c : ℕ) → c < n → c ≢ y → owed rooms messages y c .mode ≡ 0
