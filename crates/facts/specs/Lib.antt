@@ -2,6 +2,7 @@ pub mod Places
 pub mod Shapes
 pub mod Rooms
 pub mod Moments
+pub mod Messages
 pub mod Blank
 pub mod Whole
 pub mod Names

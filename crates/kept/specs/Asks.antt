@@ -21,6 +21,7 @@ use Rattle.table.specs.Formed.{due, names}
 use Rattle.rules.specs.Work.{Work, send, join}
 use Rattle.rules.specs.Rules.{hold, want, isEmpty, askWith, askWithout, ask, upgrade, handBack}
 use Rattle.facts.specs.Rooms.{RoomFacts}
+use Rattle.facts.specs.Moments.{QueuedFacts}
 use Rattle.kept.specs.Changed.{changed-same}
 use Rattle.kept.specs.Moment.{empty}
 use Rattle.kept.specs.Records.{modes-facts}
@@ -71,6 +72,9 @@ module _ (n : ℕ) (rooms : ℕ → Room) (kept : List Wire) (w : Work) (a : Who
     unfolding want
     want-due = ap due (changed-same rooms (w .me) (want w m .room)) ∙ due-wanted (withModes (w .room) (w .room .held) m) free
 
+    want-named : QueuedFacts n (now rooms (want w m)) (record { room = w .me; mode = m })
+    want-named = record { low = a .low; some = some; code = code; waits = want-due }
+
     -- "With the token: if the queue is empty and m agrees with owned, x holds m; else x wants m and joins the end of the queue."
     ask-with-kept : w .room .token ≡ true → Whole n rooms kept (askWith w m)
     unfolding askWith want
@@ -78,7 +82,7 @@ module _ (n : ℕ) (rooms : ℕ → Room) (kept : List Wire) (w : Work) (a : Who
         by-test (Whole n rooms kept) (isEmpty (w .queue) && agrees m (owned (w .room))) (hold w m) (join (want w m) (w .me) m)
         (λ e. hold-kept m code (held-waits (w .room) m some) (λ u. with) (λ u. with))
         (λ e. put-joined n rooms kept (want w m) (only (w .me)) 0 want-kept (w .me) m empty
-        (record { low = a .low; some = some; code = code; waits = want-due }) (λ c l. omega arith))
+        want-named (λ c l. omega arith))
 
     -- "Without it: if owned can lend m, x holds m and nothing is sent; else x wants m and sends REQUEST to toward."
     ask-without-kept : w .room .token ≡ false → Whole n rooms kept (askWithout w m)
@@ -88,7 +92,7 @@ module _ (n : ℕ) (rooms : ℕ → Room) (kept : List Wire) (w : Work) (a : Who
         (λ e. let weak = small-weak m (lends-small (owned (w .room)) m e) in
         hold-kept m code (held-waits (w .room) m some) (λ u. absurd (weak .0 u)) (λ u. absurd (weak .1 u)))
         (λ e. put-request n rooms kept (want w m) (w .room .toward) (facts .toward-low) (λ k. clash (facts .toward-token k) without)
-        (w .me) m (eqb (owned (w .room)) 0) (a .low) some code want-due
+        (w .me) m (eqb (owned (w .room)) 0) want-named
         (rw (changed-same rooms (w .me) (want w m .room)) without) want-kept)
 
     pub ask-kept : Whole n rooms kept (ask w m)
