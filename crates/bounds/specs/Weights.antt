@@ -1,6 +1,5 @@
 -- Laws of levels and weights, and what one message more or less does to the weights and to the number of REQUESTs.
 use mathlib.Core.Path.{_≡_, ap}
-use mathlib.Core.Bool.{_||_}
 use mathlib.Core.List.{List, [], _∷_, _++_}
 use Prim.Native.Nat.{ℕ, _+_, _*_, _≤_, _<_}
 use native.Mathlib.Omega.{arith}
@@ -12,13 +11,13 @@ use Rattle.base.specs.Sums.{one}
 use Rattle.base.specs.Lists.{total, count, remove, total-append, total-snoc, total-remove}
 use Rattle.modes.specs.Codes.{IR}
 use Rattle.room.specs.declared.Room.{Room}
-use Rattle.room.specs.Limits.{nobody}
 use Rattle.table.specs.declared.Wire.{Wire}
 use Rattle.table.specs.declared.Message.{Message}
 use Rattle.table.specs.declared.Message.the-variants as msg
 use Rattle.table.specs.Tables.{noWire}
 use Rattle.facts.specs.Names.{isNaming}
 use Rattle.facts.specs.Wires.{wire, leavingSent}
+use Rattle.facts.specs.Cases.{leaving-either}
 use Rattle.bounds.specs.Bounds.{level, weight, isRequest}
 
 -- no mode has a level above 2
@@ -117,19 +116,17 @@ module _ (l : List Wire) (k a b : ℕ) (m : Message) (inside : k < length l) (th
 -- what goes to the old lender: one REDUCE at most
 module _ (l : List Wire) (me : ℕ) (r : Room) (a : ℕ) where
   pub weights-leaving : weights (l ++ leavingSent me r a) ≤ weights l + 1
-  unfolding leavingSent total weight
+  unfolding total weight
   weights-leaving = omega (
     arith,
     total-append (λ w. weight (w .message)) l (leavingSent me r a),
-    by-test (λ (s : List Wire). weights s ≤ 1) (eqb (r .lender) nobody || eqb (r .lender) a) [] (wire me (r .lender) (msg.Reduce (r .link) 0) ∷ [])
-        (λ e. omega arith) (λ e. omega arith),
+    leaving-either me r a (λ (s : List Wire). weights s ≤ 1) (omega arith) (λ e. omega arith),
   )
 
   pub requests-leaving : requests (l ++ leavingSent me r a) ≡ requests l
-  unfolding leavingSent total isRequest
+  unfolding total isRequest
   requests-leaving = omega (
     arith,
     total-append (λ w. one (isRequest (w .message))) l (leavingSent me r a),
-    by-test (λ (s : List Wire). requests s ≡ 0) (eqb (r .lender) nobody || eqb (r .lender) a) [] (wire me (r .lender) (msg.Reduce (r .link) 0) ∷ [])
-        (λ e. omega arith) (λ e. omega arith),
+    leaving-either me r a (λ (s : List Wire). requests s ≡ 0) (omega arith) (λ e. omega arith),
   )

@@ -37,7 +37,7 @@ pub record TokenFacts (r : Room) (m rest : ℕ) : Type 0 where
   -- its receiver waits for that mode
   pub waits : due r ≡ m
 
--- what such a message to room `to` has; a REQUEST names its origin as a place of the queue does
+-- what a message in use to room `to` has; a REQUEST names its origin as a place of the queue does
 abbrev pub Proper : ℕ → (ℕ → Room) → ℕ → Message → Type 0
 Proper n rooms to msg.Nothing = ⊥
 Proper n rooms to (msg.Request o m idle) = QueuedFacts n rooms (record { room = o; mode = m })

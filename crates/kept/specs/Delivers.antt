@@ -12,13 +12,13 @@ use Rattle.base.specs.Choice.{by-test, split}
 use Rattle.base.specs.Tests.{and-left, and-right, clash}
 use Rattle.base.specs.Sums.{one, sum-at}
 use Rattle.modes.specs.Codes.{W}
-use Rattle.modes.specs.Modes.{isStronger, canLend}
+use Rattle.modes.specs.Modes.{canLend}
 use Rattle.modes.proofs.Laws.{small-code, small-weak}
 use Rattle.room.specs.declared.Room.{Room}
 use Rattle.room.specs.declared.Send.{Send}
 use Rattle.room.specs.declared.Send.the-variants as out
 use Rattle.room.specs.Limits.{roomLimit, nobody}
-use Rattle.room.specs.Record.{entryOf, entryAt, withModes, withToken, withDebt, setEntry}
+use Rattle.room.specs.Record.{entryOf, withModes, withToken, withDebt, setEntry}
 use Rattle.room.specs.Owned.{owned}
 use Rattle.room.specs.Rules.{lent, lentTo, leaving, granted, lifted, tokenedBy, tokened, reduced}
 use Rattle.table.specs.declared.Wire.{Wire}
@@ -31,6 +31,7 @@ use Rattle.facts.specs.Rooms.{RoomFacts}
 use Rattle.facts.specs.Moments.{QueuedFacts}
 use Rattle.facts.specs.Messages.{GrantFacts, TokenFacts, proper}
 use Rattle.facts.specs.Wires.{wire}
+use Rattle.facts.specs.Cases.{reduced-either}
 use Rattle.kept.specs.Changed.{changed-same}
 use Rattle.kept.specs.Moment.{Right, empty}
 use Rattle.kept.specs.Records.{modes-facts, counter-facts, free-facts, owing-facts, gained-facts, entry-set-facts}
@@ -172,14 +173,13 @@ module _ (n : ℕ) (rooms : ℕ → Room) (kept : List Wire) (w : Work) (from : 
 
     -- "REDUCE: if b's entry for a has this link number and a stronger mode than the new one, it takes the new mode; else the message is dropped."
     pub reduced-kept : (l m : ℕ) → m ≤ W → Whole n rooms kept w → Whole n rooms kept (withRoom w (reduced (w .room) from l m))
-    unfolding reduced due
+    unfolding due
     reduced-kept l m code a =
-        by-test (λ (r : Room). Whole n rooms kept (withRoom w r)) (eqb (entryAt (w .room) from .link) l && isStronger (entryAt (w .room) from .mode) m)
-        (setEntry (w .room) from (entryOf m l)) (w .room)
-        (λ e. set-alike n rooms kept w empty 0 a (setEntry (w .room) from (entryOf m l))
+        reduced-either (w .room) from l m (λ (r : Room). Whole n rooms kept (withRoom w r))
+        (set-alike n rooms kept w empty 0 a (setEntry (w .room) from (entryOf m l))
         (entry-set-facts n (w .me) (w .room) (own-room n rooms kept w empty 0 a) from m l (a .small) (a .long) from-low apart code)
         (length-set (w .room .entries) from (entryOf m l) ∙ a .long) refl refl)
-        (λ e. a)
+        a
 
     reduce-kept : (l m : ℕ) → m ≤ W → Whole n rooms kept w → Whole n rooms kept (receive w from (msg.Reduce l m))
     unfolding receive

@@ -1,17 +1,13 @@
 -- Each kind of message, sent by the room that acts with what it has in hand.
 use mathlib.Core.Path.{_≡_, refl}
 use mathlib.Core.Logic.{_≢_}
-use mathlib.Core.Bool.{Bool, true, false, _||_}
+use mathlib.Core.Bool.{Bool, false}
 use mathlib.Core.List.{List}
 use Prim.Native.Nat.{ℕ, _≤_, _<_}
 use native.Mathlib.Omega.{arith}
-use lib.Dec.{eqb}
-use borrow.Author.Tests.{eqb-false}
-use Rattle.base.specs.Choice.{by-test}
 use Rattle.modes.specs.Codes.{W}
 use Rattle.room.specs.declared.Room.{Room}
 use Rattle.room.specs.declared.Send.{Send}
-use Rattle.room.specs.declared.Send.the-variants as out
 use Rattle.room.specs.Limits.{nobody}
 use Rattle.room.specs.Rules.{leaving}
 use Rattle.table.specs.declared.Wire.{Wire}
@@ -20,6 +16,7 @@ use Rattle.table.specs.Formed.{isToken, isNamedIn}
 use Rattle.rules.specs.Work.{Work, send, sendOut}
 use Rattle.facts.specs.Moments.{QueuedFacts}
 use Rattle.facts.specs.Messages.{GrantFacts, TokenFacts}
+use Rattle.facts.specs.Cases.{leaving-send}
 use Rattle.kept.specs.Moment.{empty}
 use Rattle.kept.specs.Acts.{At, Whole, now, only, put-sent}
 
@@ -66,15 +63,7 @@ module _ (n : ℕ) (rooms : ℕ → Room) (kept : List Wire) (w : Work) (y : ℕ
 -- "if b has a lender other than a, it sends that lender REDUCE to none under the old link"
 pub put-leaving : (n : ℕ) (rooms : ℕ → Room) (kept : List Wire) (w : Work) (r : Room) (a : ℕ)
     → (r .lender ≢ nobody → r .lender < n) → r .lender ≢ w .me → Whole n rooms kept w → Whole n rooms kept (sendOut w (leaving r a))
-unfolding leaving sendOut
+unfolding sendOut
 put-leaving n rooms kept w r a low other k =
-    by-test (λ (s : Send). Whole n rooms kept (sendOut w s)) (eqb (r .lender) nobody || eqb (r .lender) a) out.Nothing (out.Reduce (r .lender) (r .link) 0)
-    (λ e. k)
-    (λ e. put-reduce n rooms kept w (r .lender) (low (eqb-false _ _ (first e))) other (r .link) 0 (omega arith) k)
-  where
-    first : (eqb (r .lender) nobody || eqb (r .lender) a) ≡ false → eqb (r .lender) nobody ≡ false
-    first e = or-none (eqb (r .lender) nobody) (eqb (r .lender) a) e
-      where
-        or-none : (p q : Bool) → (p || q) ≡ false → p ≡ false
-        or-none true q h = h
-        or-none false q h = refl
+    leaving-send r a (λ (s : Send). Whole n rooms kept (sendOut w s)) (λ e. k)
+    (λ e. put-reduce n rooms kept w (r .lender) (low e) other (r .link) 0 (omega arith) k)

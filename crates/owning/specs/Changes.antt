@@ -17,10 +17,11 @@ use Rattle.modes.specs.Under.{under}
 use Rattle.modes.proofs.Laws.{under-refl, none-under, IR-under, stronger-true}
 use Rattle.room.specs.declared.Room.{Room}
 use Rattle.room.specs.declared.Entry.{Entry}
-use Rattle.room.specs.Limits.{roomLimit, nobody}
+use Rattle.room.specs.Limits.{roomLimit}
 use Rattle.room.specs.Record.{noEntry, entryOf, entryAt, withModes, withDebt, setEntry}
 use Rattle.room.specs.Owned.{owned}
 use Rattle.room.specs.Rules.{nextLink, lentTo, left, remaining, passedTo, credited, tokenedBy, reduced}
+use Rattle.facts.specs.Cases.{passed-either, credited-either}
 use Rattle.owning.specs.Parts.{part}
 use Rattle.owning.specs.Owned.{part-entry, part-held, part-owned, owned-any}
 
@@ -88,9 +89,7 @@ module _ (r : Room) where
 
   -- what is owed is no part
   pub credited-same : (m : ℕ) → Same r (credited r m)
-  unfolding credited
-  credited-same m =
-      by-test (Same r) (eqb m 0) (withDebt r nobody m 0) (withDebt r (r .lender) m (r .link)) (λ e. same-parts r _ refl refl) (λ e. same-parts r _ refl refl)
+  credited-same m = credited-either r m (Same r) (same-parts r _ refl refl) (same-parts r _ refl refl)
 
 -- none and IR are under all that is stronger
 pub weak-under : (m o : ℕ) → m ≤ IR → m < o → under m o ≡ true
@@ -128,10 +127,9 @@ module _ (r : Room) (y : ℕ) (long : length (r .entries) ≡ roomLimit) (low : 
 
   -- a pass: "the entry for w is cleared"
   passed-same : Same (setEntry r y noEntry) (passedTo r y)
-  unfolding passedTo left
+  unfolding left
   passed-same =
-      by-test (Same (setEntry r y noEntry)) (eqb (remaining r y) 0) (left r y) (withDebt (left r y) y (remaining r y) (nextLink (r .counter)))
-      (λ e. same-parts (setEntry r y noEntry) _ refl refl) (λ e. same-parts (setEntry r y noEntry) _ refl refl)
+      passed-either r y (Same (setEntry r y noEntry)) (same-parts (setEntry r y noEntry) _ refl refl) (same-parts (setEntry r y noEntry) _ refl refl)
 
   pub passed-alters : Alters r (passedTo r y) y none
   passed-alters =

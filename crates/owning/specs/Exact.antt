@@ -1,7 +1,7 @@
 -- EXACT is kept by each change, or is put right again by settling.
 use mathlib.Core.Path.{_≡_, refl, sym, _∙_, ap, subst⁻¹}
 use mathlib.Core.Logic.{_≢_, _⊎_, inl, inr}
-use mathlib.Core.Bool.{true, false, _&&_}
+use mathlib.Core.Bool.{true, false}
 use Prim.Native.Nat.{ℕ, _≤_, _<_}
 use native.Mathlib.Omega.{arith}
 use lib.Dec.{eqb}
@@ -15,11 +15,12 @@ use Rattle.modes.specs.Modes.{isStronger, canLend}
 use Rattle.modes.specs.Under.{under, small}
 use Rattle.modes.proofs.Laws.{stronger-true, stronger-false, weak-small, under-small-falls}
 use Rattle.room.specs.declared.Room.{Room}
-use Rattle.room.specs.Limits.{roomLimit, nobody}
-use Rattle.room.specs.Record.{entryOf, entryAt, withModes, withDebt, setEntry}
+use Rattle.room.specs.Limits.{roomLimit}
+use Rattle.room.specs.Record.{withModes, withDebt}
 use Rattle.room.specs.Owned.{owned}
 use Rattle.room.specs.Rules.{nextLink, lentTo, left, remaining, passedTo, credited, tokenedBy, reduced}
 use Rattle.facts.specs.Rooms.{RoomFacts}
+use Rattle.facts.specs.Cases.{credited-credit, reduced-credit}
 use Rattle.owning.specs.Clauses.{Square, Exact, Agreeing}
 use Rattle.owning.specs.Owned.{part-held}
 use Rattle.owning.specs.Changes.{same-owned, modes-alters, wanted-same, granted-alters, credited-same, passed-owned}
@@ -59,16 +60,12 @@ settle-weak x n rooms b e =
 module _ (n : ℕ) (old new : ℕ → Room) (me : ℕ) (low : me < n) (others : (c : ℕ) → c ≢ me → new c ≡ old c) where
   -- "settle": credit becomes owned
   pub exact-settle : ExactBut me n old → new me ≡ credited (old me) (owned (old me)) → Exact n new
-  unfolding credited
   exact-settle b here c h t = go (same? c me)
     where
-      owes : (m : ℕ) → credited (old me) m .credit ≡ m
-      owes m = by-test (λ (r : Room). r .credit ≡ m) (eqb m 0) (withDebt (old me) nobody m 0) (withDebt (old me) (old me .lender) m (old me .link)) (λ e. refl) (λ e. refl)
-
       go : (c ≡ me) ⊎ (c ≢ me) → Square (new c)
       go (inl e) =
           rw (e, here)
-          (owes (owned (old me)) ∙ sym (same-owned (old me) (credited (old me) (owned (old me))) (credited-same (old me) (owned (old me)))))
+          (credited-credit (old me) (owned (old me)) ∙ sym (same-owned (old me) (credited (old me) (owned (old me))) (credited-same (old me) (owned (old me)))))
       go (inr e) = rw (others c e) (b .others c h e (ap (λ (r : Room). r .token) (sym (others c e)) ∙ t))
 
   module _ (x : Exact n old) where
@@ -150,12 +147,6 @@ module _ (n : ℕ) (old new : ℕ → Room) (me : ℕ) (low : me < n) (others : 
             (rw here (lent-weaker (old me) agreeing y long near m can))
 
         pub but-reduce : (l m : ℕ) → m ≤ IR → new me ≡ reduced (old me) y l m → ExactBut me n new
-        unfolding reduced
         but-reduce l m weak here =
-            falls (ap (λ (r : Room). r .credit) here ∙ owes)
+            falls (ap (λ (r : Room). r .credit) here ∙ reduced-credit (old me) y l m)
             (rw here (reduced-weaker (old me) agreeing y long near l m weak))
-          where
-            owes : reduced (old me) y l m .credit ≡ old me .credit
-            owes =
-                by-test (λ (r : Room). r .credit ≡ old me .credit) (eqb (entryAt (old me) y .link) l && isStronger (entryAt (old me) y .mode) m)
-                (setEntry (old me) y (entryOf m l)) (old me) (λ e. refl) (λ e. refl)

@@ -1,20 +1,19 @@
 -- DELIVER keeps the invariant, whatever the message is.
 use mathlib.Core.Path.{_≡_, refl, sym, _∙_, ap, subst⁻¹}
 use mathlib.Core.Logic.{_≢_}
-use mathlib.Core.Bool.{Bool, true, false, _||_}
-use mathlib.Core.List.{List, [], _∷_, _++_, append-nil}
+use mathlib.Core.Bool.{true, false}
+use mathlib.Core.List.{List, [], _++_, append-nil}
 use Prim.Native.Nat.{ℕ, _≤_, _<_}
 use native.Mathlib.Omega.{arith}
-use lib.Dec.{eqb}
 use borrow.Author.Tests.{eq-eqb}
-use Rattle.base.specs.Choice.{if_then_else_, by-test}
+use Rattle.base.specs.Choice.{by-test}
 use Rattle.base.specs.Sums.{one}
 use Rattle.base.specs.Lists.{Mem, remove, mem-at}
 use Rattle.modes.specs.Codes.{IR}
 use Rattle.modes.specs.Under.{under}
 use Rattle.room.specs.declared.Room.{Room}
+use Rattle.room.specs.declared.Send.{Send}
 use Rattle.room.specs.declared.Send.the-variants as out
-use Rattle.room.specs.Limits.{nobody}
 use Rattle.room.specs.Record.{withModes, withDebt, setEntry, entryOf}
 use Rattle.room.specs.Owned.{owned}
 use Rattle.room.specs.Rules.{leaving, granted, tokened, tokenedBy, reduced}
@@ -27,7 +26,7 @@ use Rattle.table.specs.Formed.{isToken, isNamedIn}
 use Rattle.rules.specs.Work.{Work, withRoom, send, sendOut, change}
 use Rattle.rules.specs.Rules.{settle, serve, settleOrServe, receive}
 use Rattle.facts.specs.Messages.{GrantFacts, proper}
-use Rattle.facts.specs.Wires.{wire, leavingSent}
+use Rattle.facts.specs.Wires.{wire, sentBy, leavingSent}
 use Rattle.facts.specs.Cases.{reduced-either}
 use Rattle.kept.specs.Changed.{changed, changed-same, changed-elsewhere}
 use Rattle.kept.specs.Moment.{Right, empty}
@@ -53,13 +52,12 @@ sending me room queue sent = record { me = me; room = room; queue = queue; sent 
 
 pub left-work : (me : ℕ) (room r : Room) (queue : List Queued) (a : ℕ)
     → sendOut (taking me room queue) (leaving r a) ≡ sending me room queue (leavingSent me r a)
-unfolding leaving sendOut send leavingSent
-left-work me room r queue a = go (eqb (r .lender) nobody || eqb (r .lender) a)
+unfolding sendOut send leavingSent
+left-work me room r queue a = go (leaving r a)
   where
-    go : (b : Bool) → sendOut (taking me room queue) (if b then out.Nothing else out.Reduce (r .lender) (r .link) 0)
-        ≡ sending me room queue (if b then [] else wire me (r .lender) (msg.Reduce (r .link) 0) ∷ [])
-    go true = refl
-    go false = refl
+    go : (s : Send) → sendOut (taking me room queue) s ≡ sending me room queue (sentBy me s)
+    go out.Nothing = refl
+    go (out.Reduce y l m) = refl
 
 module _ (n : ℕ) (rooms : ℕ → Room) (messages : List Wire) (me : ℕ) (room : Room) (queue : List Queued)
     (inv : Invariant n (now rooms (taking me room queue)) queue messages) (k a : ℕ) where

@@ -5,14 +5,12 @@ use mathlib.Core.Bool.{true, false, true≢false}
 use mathlib.Core.List.{List, [], _∷_, _++_}
 use Prim.Native.Nat.{ℕ, _+_, _≤_, _<_}
 use native.Mathlib.Omega.{arith}
-use lib.Dec.{eqb}
 use lib.ListN.{length, length-set}
-use Rattle.base.specs.Choice.{by-test}
 use Rattle.base.specs.Lists.{Mem}
 use Rattle.modes.specs.Modes.{agrees, canLend}
 use Rattle.room.specs.declared.Room.{Room}
 use Rattle.room.specs.Limits.{roomLimit, nobody}
-use Rattle.room.specs.Record.{noEntry, withDebt}
+use Rattle.room.specs.Record.{noEntry}
 use Rattle.room.specs.Owned.{owned}
 use Rattle.room.specs.Rules.{nextLink, left, remaining, passedTo}
 use Rattle.table.specs.declared.Wire.{Wire}
@@ -21,6 +19,7 @@ use Rattle.table.specs.declared.Message.{Message}
 use Rattle.table.specs.declared.Message.the-variants as msg
 use Rattle.table.specs.Formed.{isToken}
 use Rattle.facts.specs.Wires.{wire}
+use Rattle.facts.specs.Cases.{passed-either}
 use Rattle.kept.specs.Moment.{Moment}
 use Rattle.ledger.specs.Debts.{isSetting}
 use Rattle.ledger.specs.Passes.{ledger-pass}
@@ -73,11 +72,10 @@ module _ (n : ℕ) (old new : ℕ → Room) (queue : List Queued) (messages : Li
   counted = next-link n limit old queue messages hand me low (k .counters)
 
   size : length (new me .entries) ≡ length (old me .entries)
-  unfolding passedTo left
+  unfolding left
   size =
       ap (λ (r : Room). length (r .entries)) here
-      ∙ by-test (λ (r : Room). length (r .entries) ≡ length (old me .entries)) (eqb (remaining (old me) y) 0) (left (old me) y)
-      (withDebt (left (old me) y) y (remaining (old me) y) link) (λ b. same) (λ b. same)
+      ∙ passed-either (old me) y (λ (r : Room). length (r .entries) ≡ length (old me .entries)) same same
     where
       same : length (left (old me) y .entries) ≡ length (old me .entries)
       same = length-set (old me .entries) y noEntry

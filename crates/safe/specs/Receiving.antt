@@ -1,18 +1,16 @@
 -- Every clause is kept where a GRANT, the TOKEN or a REDUCE arrives.
 use mathlib.Core.Path.{_≡_, refl, _∙_, ap}
 use mathlib.Core.Logic.{_≢_, ⊎-elim}
-use mathlib.Core.Bool.{true, false, _||_}
-use mathlib.Core.List.{List, [], _∷_, _++_, append-nil}
+use mathlib.Core.Bool.{true, false}
+use mathlib.Core.List.{List, _++_, append-nil}
 use Prim.Native.Nat.{ℕ, _≤_, _<_}
 use native.Mathlib.Omega.{arith}
-use lib.Dec.{eqb}
 use lib.ListN.{length, length-set}
-use Rattle.base.specs.Choice.{by-test}
 use Rattle.base.specs.Lists.{Mem, remove, mem-at}
 use Rattle.modes.specs.Codes.{IR}
 use Rattle.modes.specs.Under.{small}
 use Rattle.room.specs.declared.Room.{Room}
-use Rattle.room.specs.Limits.{roomLimit, nobody}
+use Rattle.room.specs.Limits.{roomLimit}
 use Rattle.room.specs.Record.{entryOf, withModes, withDebt, setEntry}
 use Rattle.room.specs.Rules.{tokenedBy, reduced}
 use Rattle.table.specs.declared.Wire.{Wire}
@@ -23,7 +21,7 @@ use Rattle.table.specs.Tables.{noWire}
 use Rattle.table.specs.Formed.{isToken}
 use Rattle.facts.specs.Rooms.{RoomFacts}
 use Rattle.facts.specs.Wires.{wire, leavingSent}
-use Rattle.facts.specs.Cases.{reduced-either}
+use Rattle.facts.specs.Cases.{leaving-either, reduced-either}
 use Rattle.ledger.specs.Links.{Sender}
 use Rattle.ledger.specs.Frames.{alike}
 use Rattle.ledger.specs.Takes.{Oldest, ledger-reduce}
@@ -44,10 +42,9 @@ use Rattle.safe.specs.Lending.{long-kept}
 
 -- the REDUCE to a lender that is left is no TOKEN and no REQUEST
 sender-leaving : (rooms : ℕ → Room) (messages : List Wire) (me : ℕ) (r : Room) (a : ℕ) → Sender rooms messages → Sender rooms (messages ++ leavingSent me r a)
-unfolding leavingSent isToken
+unfolding isToken
 sender-leaving rooms messages me r a s =
-    by-test (λ (l : List Wire). Sender rooms (messages ++ l)) (eqb (r .lender) nobody || eqb (r .lender) a) [] (wire me (r .lender) (msg.Reduce (r .link) 0) ∷ [])
-    (λ b. rw (append-nil messages) s)
+    leaving-either me r a (λ (l : List Wire). Sender rooms (messages ++ l)) (rw (append-nil messages) s)
     (λ b. sender-sent rooms rooms messages s (λ c. refl) (λ c. omega arith) (wire me (r .lender) (msg.Reduce (r .link) 0)) refl
     (λ w i j rest l e o h idle q. absurd (omega (arith, ap kind q))))
 

@@ -5,9 +5,7 @@ use mathlib.Core.Bool.{true}
 use mathlib.Core.List.{List, [], _∷_, _++_}
 use Prim.Native.Nat.{ℕ, _≤_, _<_}
 use native.Mathlib.Omega.{arith}
-use lib.Dec.{eqb}
 use lib.ListN.{length}
-use Rattle.base.specs.Choice.{by-test}
 use Rattle.base.specs.Lists.{Mem}
 use Rattle.modes.specs.Codes.{IR}
 use Rattle.modes.specs.Modes.{isStronger}
@@ -23,6 +21,7 @@ use Rattle.table.specs.declared.Message.the-variants as msg
 use Rattle.table.specs.Formed.{isToken}
 use Rattle.facts.specs.Rooms.{RoomFacts}
 use Rattle.facts.specs.Wires.{wire}
+use Rattle.facts.specs.Cases.{credited-either}
 use Rattle.ledger.specs.Frames.{alike}
 use Rattle.ledger.specs.Lends.{ledger-pay}
 use Rattle.ledger.specs.Calm.{ledger-modes}
@@ -81,10 +80,7 @@ module _ (n : ℕ) (old new : ℕ → Room) (queue : List Queued) (messages : Li
     -- what settling leaves alone
     same : {A : Type 0} (f : Room → A) → f (withDebt (old me) nobody own 0) ≡ f (old me) → f (withDebt (old me) (old me .lender) own (old me .link)) ≡ f (old me)
         → f (new me) ≡ f (old me)
-    unfolding credited
-    same f p q =
-        ap f here
-        ∙ by-test (λ (r : Room). f r ≡ f (old me)) (eqb own 0) (withDebt (old me) nobody own 0) (withDebt (old me) (old me .lender) own (old me .link)) (λ b. p) (λ b. q)
+    same f p q = ap f here ∙ credited-either (old me) own (λ (r : Room). f r ≡ f (old me)) p q
 
     pub clauses-settle : Clauses n new queue (messages ++ (reduce ∷ [])) hand
     unfolding isToken
