@@ -9,7 +9,7 @@ use lib.Dec.{ltb, eqb}
 use borrow.Author.Tests.{ltb-false, eqb-false}
 use Rattle.base.specs.Choice.{split}
 use Rattle.base.specs.Tests.{clash}
-use Rattle.base.specs.Below.{all-of}
+use Rattle.base.specs.Below.{all-of, some-or-none}
 use Rattle.base.specs.Sums.{one, sum, sum-at, sum-bound, same?, below?}
 use Rattle.base.specs.Lists.{Mem, total}
 use Rattle.base.specs.Folds.{folds}
@@ -36,7 +36,7 @@ use Rattle.safe.specs.Reached.{Reached}
 use Rattle.safe.specs.Step.{Safe}
 use Rattle.safe.specs.Always.{reached-safe}
 use Rattle.drain.specs.Drains.{Resting}
-use Rattle.drain.specs.Quiet.{Quiet, some-or-none, quiet-or-moves}
+use Rattle.drain.specs.Quiet.{Quiet, quiet-or-moves}
 
 -- a room that owns nothing does not block the head of a queue
 unblocked : (n : ℕ) (rooms : ℕ → Room) (r : Room) (queue : List Queued) → ((q : Queued) → Mem q queue → QueuedFacts n rooms q)

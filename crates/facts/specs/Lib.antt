@@ -6,6 +6,7 @@ pub mod Messages
 pub mod Blank
 pub mod Whole
 pub mod Names
+pub mod Tokens
 pub mod Search
 pub mod Accepted
 pub mod Wires

@@ -8,9 +8,9 @@ use native.Mathlib.Omega.{arith}
 use lib.Dec.{ltb, eqb}
 use lib.ListN.{length, set, length-set}
 use borrow.Author.Tests.{eqb-false, eq-eqb, ne-eqb, not-true}
-use Rattle.base.specs.Choice.{by-test, split}
+use Rattle.base.specs.Choice.{by-test}
 use Rattle.base.specs.Tests.{and-left, and-right, clash}
-use Rattle.base.specs.Sums.{one, sum-at}
+use Rattle.base.specs.Sums.{one}
 use Rattle.modes.specs.Codes.{W}
 use Rattle.modes.specs.Modes.{canLend}
 use Rattle.modes.proofs.Laws.{small-code, small-weak}
@@ -24,12 +24,13 @@ use Rattle.room.specs.Rules.{lent, lentTo, leaving, granted, lifted, tokenedBy,
 use Rattle.table.specs.declared.Wire.{Wire}
 use Rattle.table.specs.declared.Message.{Message}
 use Rattle.table.specs.declared.Message.the-variants as msg
-use Rattle.table.specs.Formed.{due, isToken, isNamedIn, tokens, names}
+use Rattle.table.specs.Formed.{due, isToken, isNamedIn, names}
 use Rattle.rules.specs.Work.{Work, withRoom, send, join, sendOut, change}
 use Rattle.rules.specs.Rules.{lend, settle, serve, takeRequest, receive}
 use Rattle.facts.specs.Rooms.{RoomFacts}
 use Rattle.facts.specs.Moments.{QueuedFacts}
 use Rattle.facts.specs.Messages.{GrantFacts, TokenFacts, proper}
+use Rattle.facts.specs.Tokens.{gone-tokenless}
 use Rattle.facts.specs.Wires.{wire}
 use Rattle.facts.specs.Cases.{reduced-either}
 use Rattle.kept.specs.Changed.{changed-same}
@@ -122,11 +123,8 @@ module _ (n : ℕ) (rooms : ℕ → Room) (kept : List Wire) (w : Work) (from : 
 
     -- while the token is in hand no room has it
     tokenless : At n rooms kept w (only (w .me)) 1 → w .room .token ≡ false
-    unfolding tokens
     tokenless a =
-        split (w .room .token)
-        (λ e. absurd (omega (arith, a .moment .token, sum-at n (λ c. one (now rooms w c .token)) (w .me) (a .low), ap (λ (r : Room). one (r .token)) own, ap one e)))
-        (λ e. e)
+        ap (λ (r : Room). r .token) (sym own) ∙ gone-tokenless n (now rooms w) (kept ++ w .sent) (omega (arith, a .moment .token)) (w .me) (a .low)
 
     -- "TOKEN: .. then no lender, credit none, toward itself, held the mode, wanted none; its entry for a is the remaining mode .. then serve"
     pub arrived-kept : (m rest l : ℕ) → TokenFacts (now rooms w (w .me)) m rest → At n rooms kept w (only (w .me)) 1

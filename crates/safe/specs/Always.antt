@@ -13,7 +13,7 @@ use Rattle.table.specs.declared.Message.{Message}
 use Rattle.table.specs.Numbers.{DONE}
 use Rattle.table.specs.Tables.{noWire, roomAt, messagesOf, queueOf, freshTable}
 use Rattle.table.specs.Oldest.{oldestOf}
-use Rattle.table.specs.Formed.{tokens, wellFormed}
+use Rattle.table.specs.Formed.{wellFormed}
 use Rattle.rules.specs.declared.Event.{Event}
 use Rattle.rules.specs.Events.{HANDBACK, DELIVER}
 use Rattle.rules.specs.Refusals.{first, refusals, refusal, isFound}
@@ -45,7 +45,6 @@ module _ (n : ℕ) (t : Table) (r : Reached n t) where
 
   -- "there is always exactly one token, with one room or on one wire, and modes held by two rooms agree"
   pub demand3 : Demand3 n t
-  unfolding tokens
   demand3 =
       record {
         rooms = safe .rooms;

@@ -4,6 +4,7 @@ use mathlib.Core.Logic.{_≢_}
 use mathlib.Core.Bool.{true, false}
 use mathlib.Core.List.{List, _++_}
 use Prim.Native.Nat.{ℕ, _≤_, _<_}
+use native.Mathlib.Omega.{arith}
 use Rattle.room.specs.declared.Room.{Room}
 use Rattle.room.specs.Limits.{roomLimit}
 use Rattle.room.specs.Record.{withModes}
@@ -11,10 +12,10 @@ use Rattle.table.specs.declared.Wire.{Wire}
 use Rattle.table.specs.Formed.{names}
 use Rattle.rules.specs.Work.{Work}
 use Rattle.facts.specs.Rooms.{RoomFacts}
+use Rattle.facts.specs.Tokens.{holder-alone}
 use Rattle.kept.specs.Changed.{changed, changed-same, changed-elsewhere}
 use Rattle.kept.specs.Moment.{empty}
 use Rattle.kept.specs.Acts.{now}
-use Rattle.kept.specs.Turns.{sole-token}
 use Rattle.kept.specs.Asks.{due-none}
 use Rattle.owning.specs.Clauses.{Agreeing}
 use Rattle.owning.specs.Messages.{Unnamed, unnamed-of}
@@ -54,7 +55,7 @@ module _ (n : ℕ) (rooms : ℕ → Room) (kept : List Wire) (w : Work) (a : Don
 
   -- no other room has the token that the room has
   pub alone : w .room .token ≡ true → (c : ℕ) → c < n → c ≢ w .me → old c .token ≡ false
-  alone with c l e = sole-token n old (w .queue) all empty 0 (inv .sound) (w .me) c low l e (ap (λ (r : Room). r .token) at-me ∙ with)
+  alone with = holder-alone n old all (omega (arith, inv .sound .token)) (w .me) low (ap (λ (r : Room). r .token) at-me ∙ with)
 
   -- a room that wants nothing is named by nothing
   pub nobody-names : w .room .wanted ≡ 0 → names (w .queue) all (w .me) ≡ 0

@@ -26,6 +26,7 @@ use Rattle.table.specs.Formed.{isToken, isNamedIn}
 use Rattle.rules.specs.Work.{Work, withRoom, send, sendOut, change}
 use Rattle.rules.specs.Rules.{settle, serve, settleOrServe, receive}
 use Rattle.facts.specs.Messages.{GrantFacts, proper}
+use Rattle.facts.specs.Tokens.{gone-quiet}
 use Rattle.facts.specs.Wires.{wire, sentBy, leavingSent}
 use Rattle.facts.specs.Cases.{reduced-either}
 use Rattle.kept.specs.Changed.{changed, changed-same, changed-elsewhere}
@@ -39,7 +40,7 @@ use Rattle.owning.specs.Exact.{exact-token, exact-grant, exact-arrived, but-red
 use Rattle.owning.specs.Light.{light-other, light-weaker, light-reduce}
 use Rattle.owning.specs.Served.{served-other}
 use Rattle.safe.specs.Invariant.{Clauses, Invariant}
-use Rattle.safe.specs.Moments.{in-hand, quiet-loose}
+use Rattle.safe.specs.Moments.{in-hand}
 use Rattle.safe.specs.Receiving.{clauses-grant, clauses-token, clauses-reduce}
 use Rattle.safe.specs.Done.{Done}
 use Rattle.safe.specs.Serve.{served}
@@ -143,7 +144,7 @@ module _ (n : ℕ) (rooms : ℕ → Room) (messages : List Wire) (me : ℕ) (roo
         clauses =
             rw at-me at (clauses-token n old (new rooted) queue messages me low (taken .small) (others rooted) (inv .sound .room me low) senders 0 (inv .clauses) k a
             from-low other m rest l at now-rooted (unnamed 1 low taken)
-            (quiet-loose n old queue kept (only me) 1 (rw (append-nil kept) at (taken .moment)) (omega arith)));
+            (gone-quiet n old kept (omega (arith, rw (append-nil kept) at (taken .moment .token)))));
         exact = exact-arrived n old (new rooted) me low (others rooted) (inv .exact) a m rest l now-rooted;
         light = light-other n old (new rooted) queue me low (others rooted) (inv .light) (λ e. omega (arith, ap (λ (r : Room). r .wanted) (here rooted)));
         unworn = refl;

@@ -1,19 +1,18 @@
--- What a moment says of single messages: who names whom, and where the token is.
+-- What a moment says of single rooms and messages: who names whom, and what does not go to the room with the token.
 use mathlib.Core.Path.{_≡_, _∙_, ap}
-use mathlib.Core.Bool.{Bool, true, false}
+use mathlib.Core.Bool.{Bool, true}
 use mathlib.Core.List.{List}
 use Prim.Native.Nat.{ℕ, _≤_, _<_}
 use native.Mathlib.Omega.{arith}
 use lib.Dec.{ltb}
-use Rattle.base.specs.Choice.{split}
 use Rattle.base.specs.Tests.{clash}
-use Rattle.base.specs.Sums.{one, one-le, sum-at}
-use Rattle.base.specs.Lists.{Mem, mem-total}
+use Rattle.base.specs.Sums.{one, one-le}
+use Rattle.base.specs.Lists.{Mem}
 use Rattle.room.specs.declared.Room.{Room}
 use Rattle.table.specs.declared.Wire.{Wire}
 use Rattle.table.specs.declared.Queued.{Queued}
 use Rattle.table.specs.declared.Message.the-variants as msg
-use Rattle.table.specs.Formed.{due, tokens, isToken, names}
+use Rattle.table.specs.Formed.{due, names}
 use Rattle.facts.specs.Messages.{GrantFacts, proper}
 use Rattle.kept.specs.Moment.{Moment}
 
@@ -26,28 +25,6 @@ module _ (n : ℕ) (rooms : ℕ → Room) (queue : List Queued) (messages : List
   -- a room that does not wait is named by nothing
   pub unwaiting : (y : ℕ) → y < n → due (rooms y) ≡ 0 → names queue messages y ≡ 0
   unwaiting y l h = omega (arith, s .named y l, ap (λ (m : ℕ). one (ltb 0 m)) h)
-
-  -- while a room has the token, or it is in hand, no TOKEN is under way
-  pub quiet : (x : ℕ) → x < n → rooms x .token ≡ true → (w : Wire) → Mem w messages → isToken (w .message) ≡ false
-  unfolding tokens
-  quiet x l t w m =
-      split (isToken (w .message))
-      (λ e. absurd (omega (
-        arith,
-        s .token,
-        sum-at n (λ c. one (rooms c .token)) x l,
-        ap one t,
-        mem-total (λ w. one (isToken (w .message))) m,
-        ap one e,
-      )))
-      (λ e. e)
-
-  pub quiet-loose : 1 ≤ loose → (w : Wire) → Mem w messages → isToken (w .message) ≡ false
-  unfolding tokens
-  quiet-loose h w m =
-      split (isToken (w .message))
-      (λ e. absurd (omega (arith, s .token, mem-total (λ w. one (isToken (w .message))) m, ap one e)))
-      (λ e. e)
 
   -- no GRANT is under way to the room with the token
   pub ungranted : (x : ℕ) → rooms x .token ≡ true → (w : Wire) → Mem w messages → w .to ≡ x → (m l : ℕ) → w .message ≡ msg.Grant m l → ⊥

@@ -20,6 +20,7 @@ use Rattle.table.specs.declared.Message.the-variants as msg
 use Rattle.table.specs.Formed.{isToken}
 use Rattle.facts.specs.Wires.{wire}
 use Rattle.facts.specs.Cases.{passed-either}
+use Rattle.facts.specs.Tokens.{holder-quiet}
 use Rattle.kept.specs.Moment.{Moment}
 use Rattle.ledger.specs.Debts.{isSetting}
 use Rattle.ledger.specs.Passes.{ledger-pass}
@@ -36,7 +37,7 @@ use Rattle.bounds.specs.Messages.{messages-pass}
 use Rattle.bounds.specs.Counters.{counters-pass}
 use Rattle.bounds.specs.Limits.{next-link}
 use Rattle.safe.specs.Invariant.{Clauses}
-use Rattle.safe.specs.Moments.{quiet, ungranted, unasked}
+use Rattle.safe.specs.Moments.{ungranted, unasked}
 use Rattle.safe.specs.Lending.{long-kept}
 
 -- a message that is neither a TOKEN nor a GRANT decides no debt
@@ -63,7 +64,7 @@ module _ (n : ℕ) (old new : ℕ → Room) (queue : List Queued) (messages : Li
   free = s .room me low .token-free with
 
   none : (w : Wire) → Mem w messages → isToken (w .message) ≡ false
-  none = quiet n old queue messages names 0 s me low with
+  none = holder-quiet n old messages (omega (arith, s .token)) me low with
 
   no-grant : (w : Wire) → Mem w messages → w .to ≡ me → (j l : ℕ) → w .message ≡ msg.Grant j l → ⊥
   no-grant = ungranted n old queue messages names 0 s me with

@@ -21,17 +21,18 @@ use Rattle.room.specs.Rules.{nextLink, isWorn, lent, lentTo, left, passed, pass
 use Rattle.table.specs.declared.Wire.{Wire}
 use Rattle.table.specs.declared.Queued.{Queued}
 use Rattle.table.specs.declared.Message.the-variants as msg
-use Rattle.table.specs.Formed.{due, tokens, isToken}
+use Rattle.table.specs.Formed.{due, isToken}
 use Rattle.rules.specs.Work.{Work, withQueue, send}
 use Rattle.rules.specs.Rules.{hold, lend, pass}
 use Rattle.facts.specs.Moments.{QueuedFacts}
 use Rattle.facts.specs.Wires.{wire}
 use Rattle.facts.specs.Cases.{passed-either}
+use Rattle.facts.specs.Tokens.{holder-alone, holder-quiet}
 use Rattle.kept.specs.Changed.{changed, changed-same, changed-elsewhere}
 use Rattle.kept.specs.Moment.{Moment, Sound, empty}
 use Rattle.kept.specs.Hand.{nameOf, take-queued}
 use Rattle.kept.specs.Acts.{Whole, now}
-use Rattle.kept.specs.Turns.{sole-token, turn-self, turn-lend, turn-pass}
+use Rattle.kept.specs.Turns.{turn-self, turn-lend, turn-pass}
 use Rattle.owning.specs.Clauses.{Exact, Light}
 use Rattle.owning.specs.Weaker.{lent-weaker, passed-weaker}
 use Rattle.owning.specs.Messages.{Unnamed, unnamed-of}
@@ -45,7 +46,7 @@ use Rattle.tree.specs.Dominance.{dominated}
 use Rattle.tree.specs.Kept.{lend-root-tree}
 use Rattle.bounds.specs.Limits.{never-worn}
 use Rattle.safe.specs.Invariant.{Clauses}
-use Rattle.safe.specs.Moments.{in-hand, quiet, ungranted}
+use Rattle.safe.specs.Moments.{in-hand, ungranted}
 use Rattle.safe.specs.Lending.{clauses-lend}
 use Rattle.safe.specs.Passing.{clauses-pass}
 use Rattle.safe.specs.Settling.{clauses-modes}
@@ -126,7 +127,7 @@ module _ (n : ℕ) (rooms : ℕ → Room) (kept : List Wire) (w : Work) (q : Que
     here = changed-same rooms me r
 
   alone : (c : ℕ) → c < n → c ≢ me → old c .token ≡ false
-  alone c l e = sole-token n old (q ∷ rest) messages empty 0 sound me c low l e with-old
+  alone = holder-alone n old messages (omega (arith, sound .token)) me low with-old
 
   -- "if it is the room itself, it holds the mode and wants none"
   pub serving-self : q .room ≡ me → Serving n rooms kept (hold w (q .mode)) rest
@@ -169,7 +170,6 @@ module _ (n : ℕ) (rooms : ℕ → Room) (kept : List Wire) (w : Work) (q : Que
 
     -- by dominance y owns no more than some entry of the room with the token
     covered : Covered (old me) (old y)
-    unfolding tokens
     covered =
         dominated n old messages limit (sound .room) (a .clauses .ledger) (a .exact) (a .clauses .small) (a .clauses .pairs) (a .clauses .fits)
         (a .clauses .tree) (omega (arith, sound .token)) me low with-old y (head .low) other
@@ -205,7 +205,7 @@ module _ (n : ℕ) (rooms : ℕ → Room) (kept : List Wire) (w : Work) (q : Que
         can-old = rw own can
 
         none : (v : Wire) → Mem v messages → isToken (v .message) ≡ false
-        none = quiet n old (q ∷ rest) messages empty 0 sound me low with-old
+        none = holder-quiet n old messages (omega (arith, sound .token)) me low with-old
 
         fit : under (owned (old y)) m ≡ true
         fit =
