@@ -118,12 +118,13 @@ module _ (r : Room) (y : ℕ) (long : length (r .entries) ≡ roomLimit) (low : 
           part-entry (setEntry r y e) i l ∙ ap (λ (e : Entry). e .mode) (getD-set-other (r .entries) y i e noEntry ne) ∙ sym (part-entry r i l)
       go i h ne (inr l) = let k : i ≡ roomLimit = omega arith in rw k (part-held (setEntry r y e) ∙ sym (part-held r))
 
+  pub entry-alters : (m l : ℕ) → Alters r (setEntry r y (entryOf m l)) y m
+  entry-alters m l = set-alters (entryOf m l) m (entry-mode m l)
+
   -- a loan
   pub lent-alters : (m : ℕ) → Alters r (lentTo r y m) y m
   unfolding lentTo
-  lent-alters m =
-      alike r (setEntry r y (entryOf m (nextLink (r .counter)))) _ y m (omega arith)
-      (set-alters (entryOf m (nextLink (r .counter))) m (entry-mode m (nextLink (r .counter)))) refl refl
+  lent-alters m = alike r (setEntry r y (entryOf m (nextLink (r .counter)))) _ y m (omega arith) (entry-alters m (nextLink (r .counter))) refl refl
 
   -- a pass: "the entry for w is cleared"
   passed-same : Same (setEntry r y noEntry) (passedTo r y)
@@ -148,16 +149,13 @@ module _ (r : Room) (y : ℕ) (long : length (r .entries) ≡ roomLimit) (low : 
   unfolding reduced
   reduced-falls l m weak =
       by-test (Falls r) (eqb (entryAt r y .link) l && isStronger (entryAt r y .mode) m) (setEntry r y (entryOf m l)) r
-      (λ e. alters-falls r (setEntry r y (entryOf m l)) y m (set-alters (entryOf m l) m (entry-mode m l)) (lower (stronger-true _ _ (and-right (eqb (entryAt r y .link) l) _ e))))
+      (λ e. alters-falls r (setEntry r y (entryOf m l)) y m (entry-alters m l) (lower (stronger-true _ _ (and-right (eqb (entryAt r y .link) l) _ e))))
       (λ e. same-falls r r (λ i h. refl))
     where
       lower : m < entryAt r y .mode → under m (part r y) ≡ true
       lower h = weak-under m (part r y) weak (omega (arith, part-entry r y low))
 
-  -- a TOKEN: the entry for its sender, then the held mode
-  pub tokened-entry : (rest l : ℕ) → Alters r (setEntry r y (entryOf rest l)) y rest
-  tokened-entry rest l = set-alters (entryOf rest l) rest (entry-mode rest l)
-
+  -- a TOKEN: the entry for its sender has changed, then the held mode
   pub tokened-held : (me m rest l : ℕ) → Alters (setEntry r y (entryOf rest l)) (tokenedBy r me y m rest l) roomLimit m
   unfolding tokenedBy
   tokened-held me m rest l =

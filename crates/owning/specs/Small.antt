@@ -22,10 +22,11 @@ use Rattle.table.specs.declared.Wire.{Wire}
 use Rattle.table.specs.declared.Message.the-variants as msg
 use Rattle.table.specs.Tables.{noWire}
 use Rattle.facts.specs.Wires.{wire, leavingSent}
+use Rattle.facts.specs.Cases.{reduced-either}
 use Rattle.owning.specs.Parts.{part}
 use Rattle.owning.specs.Clauses.{ReduceSmall, Small}
 use Rattle.owning.specs.Owned.{part-entry, part-owned, owned-any}
-use Rattle.owning.specs.Changes.{Falls, Alters, same-falls, credited-same, lent-alters, passed-alters, passed-owned, reduced-falls, tokened-entry, tokened-held}
+use Rattle.owning.specs.Changes.{Falls, Alters, same-falls, credited-same, lent-alters, passed-alters, passed-owned, entry-alters, tokened-held}
 use Rattle.owning.specs.Weaker.{passed-falls}
 use Rattle.owning.specs.Messages.{Among, sent-among, leaving-among, leavingWire, kind}
 
@@ -155,16 +156,18 @@ module _ (n : ℕ) (old new : ℕ → Room) (messages : List Wire) (me : ℕ) (l
             go i h (inl e) = rw (e, alters .there) (omega arith)
             go i h (inr e) = rw (alters .others i h e) (omega (arith, part-owned (old me) i h, not-lent-low (owned (old me)) m some agree cannot))
 
-    -- a REDUCE arrives
+    -- a REDUCE arrives: an entry that falls is none, IR or R
     pub small-reduce : (k l m : ℕ) → k < length messages → getD messages k noWire ≡ wire y me (msg.Reduce l m) → new me ≡ reduced (old me) y l m
         → Small n new (remove k messages)
     small-reduce k l m place found here =
-        small-taken n new messages
-        (small-room (rw here (falls-small (old me) (reduced (old me) y l m) entries (reduced-falls (old me) y long (omega arith) l m weak))))
-        k
+        small-taken n new messages (small-room (rw here (reduced-either (old me) y l m SmallEntries lowered entries))) k
       where
-        weak : m ≤ IR
-        weak = s .new (getD messages k noWire) (mem-at messages k noWire place) l m (rw found refl)
+        weak : m ≤ R
+        weak = omega (arith, s .new (getD messages k noWire) (mem-at messages k noWire place) l m (rw found refl))
+
+        lowered : SmallEntries (setEntry (old me) y (entryOf m l))
+        lowered =
+            alters-small (old me) (setEntry (old me) y (entryOf m l)) entries y m (entry-alters (old me) y long (omega arith) m l) (λ h. low-small m weak)
 
     -- a TOKEN arrives: the entry for its sender is what remained there
     pub small-token : (k m rest l : ℕ) → k < length messages → getD messages k noWire ≡ wire y me (msg.Token m rest l)
@@ -178,5 +181,5 @@ module _ (n : ℕ) (old new : ℕ → Room) (messages : List Wire) (me : ℕ) (l
         whole : SmallEntries (tokenedBy (old me) me y m rest l)
         whole =
             alters-small (setEntry (old me) y (entryOf rest l)) (tokenedBy (old me) me y m rest l)
-            (alters-small (old me) (setEntry (old me) y (entryOf rest l)) entries y rest (tokened-entry (old me) y long (omega arith) rest l) (λ h. weak))
+            (alters-small (old me) (setEntry (old me) y (entryOf rest l)) entries y rest (entry-alters (old me) y long (omega arith) rest l) (λ h. weak))
             roomLimit m (tokened-held (old me) y long (omega arith) me m rest l) (λ h. absurd (omega arith))

@@ -29,6 +29,7 @@ use Rattle.ledger.specs.Numbers.{counters-kept}
 use Rattle.ledger.specs.Received.{links-reduce}
 use Rattle.ledger.specs.Leaving.{granted-both, tokened-both}
 use Rattle.ledger.specs.Senders.{sender-none, sender-sent, sender-taken}
+use Rattle.owning.specs.Clauses.{ReduceSmall}
 use Rattle.owning.specs.Messages.{Unnamed, unnamed-grant, leaving-among, kind}
 use Rattle.owning.specs.Small.{small-grant, small-token, small-reduce}
 use Rattle.owning.specs.PairsKept.{pairs-grant, pairs-token, pairs-reduce}
@@ -115,7 +116,8 @@ module _ (n : ℕ) (old new : ℕ → Room) (queue : List Queued) (messages : Li
   -- "REDUCE"
   pub clauses-reduce : (l m : ℕ) → Oldest messages p a me (msg.Reduce l m) → new me ≡ reduced (old me) a l m → Clauses n new queue (remove p messages) hand
   clauses-reduce l m o here =
-      let weak : m ≤ IR = k .small .new (wire a me (msg.Reduce l m)) (there (msg.Reduce l m) o) l m refl in
+      let new-mode : ReduceSmall (wire a me (msg.Reduce l m)) = k .small .new (wire a me (msg.Reduce l m)) (there (msg.Reduce l m) o) in
+      let weak : m ≤ IR = new-mode l m refl in
       record {
         long = long-kept n old new me others size (k .long);
         ledger = ledger-reduce n old new messages me others (k .ledger) p a other (msg.Reduce l m) o l m refl here place;
@@ -124,7 +126,7 @@ module _ (n : ℕ) (old new : ℕ → Room) (queue : List Queued) (messages : Li
             sender-taken old new messages (k .sender) (alike old new me others (λ r. r .toward) (same (λ r. r .toward) refl refl))
             (counters-kept n old new messages me others (k .links) (omega (arith, same (λ r. r .counter) refl refl))) p (o .low);
         small = small-reduce n old new messages me low others (k .small) limit (k .long me low) a from-low p l m (o .low) (o .there) here;
-        pairs = pairs-reduce n old new messages me low others (k .pairs) limit (k .long me low) a from-low p l m weak here;
+        pairs = pairs-reduce n old new messages me low others (k .pairs) limit (k .long me low) a from-low p l m new-mode here;
         fits = fits-reduce n old new messages me low others (k .fits) (k .pairs .room me low) limit (k .long me low) a from-low p l m weak here;
         idle = idle-reduce n old new messages me low others (k .idle) (k .pairs .room me low) limit (k .long me low) a from-low p l m weak here;
         tree = reduce-tree n old new messages me low others (k .tree) p a l m (o .there) here;
