@@ -106,7 +106,7 @@ module _ (n : ℕ) (rooms : ℕ → Room) (messages : List Wire) (me : ℕ) (roo
             record {
               sound = there .moment;
               clauses =
-                  rw at-me at (clauses-grant n old (new lending) queue messages me low (taken .small) (others lending) (inv .sound .room me low) senders 0 (inv .clauses) k a
+                  rw at-me at (clauses-grant n old (new lending) queue messages me low (taken .small) (rw at-me (taken .long)) (others lending) (inv .sound .room me low) senders 0 (inv .clauses) k a
                   from-low other m l at now-lent (unnamed 0 low taken) (facts .weak));
               exact =
                   exact-grant n old (new lending) me low (others lending) (inv .exact) a m l (inv .clauses .pairs .room me low)
@@ -142,7 +142,7 @@ module _ (n : ℕ) (rooms : ℕ → Room) (messages : List Wire) (me : ℕ) (roo
       (record {
         whole = rw (left-work me rooted room queue a) at whole;
         clauses =
-            rw at-me at (clauses-token n old (new rooted) queue messages me low (taken .small) (others rooted) (inv .sound .room me low) senders 0 (inv .clauses) k a
+            rw at-me at (clauses-token n old (new rooted) queue messages me low (taken .small) (rw at-me (taken .long)) (others rooted) (inv .sound .room me low) senders 0 (inv .clauses) k a
             from-low other m rest l at now-rooted (unnamed 1 low taken)
             (gone-quiet n old kept (omega (arith, rw (append-nil kept) at (taken .moment .token)))));
         exact = exact-arrived n old (new rooted) me low (others rooted) (inv .exact) a m rest l now-rooted;
@@ -188,7 +188,7 @@ module _ (n : ℕ) (rooms : ℕ → Room) (messages : List Wire) (me : ℕ) (roo
     clauses : Clauses n (new lowered) queue (kept ++ []) 0
     clauses =
         rw (append-nil kept)
-        (clauses-reduce n old (new lowered) queue messages me low (taken .small) (others lowered) (inv .sound .room me low) senders 0 (inv .clauses) k a from-low other l m at
+        (clauses-reduce n old (new lowered) queue messages me low (taken .small) (rw at-me (taken .long)) (others lowered) (inv .sound .room me low) senders 0 (inv .clauses) k a from-low other l m at
         now-lowered)
 
     pub reduced-owing : lowered .token ≡ false → Owing n rooms kept (withRoom w lowered)
@@ -198,7 +198,7 @@ module _ (n : ℕ) (rooms : ℕ → Room) (messages : List Wire) (me : ℕ) (roo
           clauses = clauses;
           exact =
               but-reduce n old (new lowered) me low (others lowered) (inv .exact) (inv .sound .room me low) (before without) (inv .clauses .pairs .room me low)
-              (λ j b. inv .clauses .small .entry me j low b) (inv .clauses .long me low) a (omega (arith, taken .small)) l m weak now-lowered;
+              (λ j b. inv .clauses .small .entry me j low b) (rw at-me (taken .long)) a (omega (arith, taken .small)) l m weak now-lowered;
           light = light-weaker n old (new lowered) queue me low (others lowered) (inv .light) (before without) (same (λ r. r .wanted) refl refl) weaker;
           served = served-other n old (new lowered) queue me (others lowered) (ap (λ (r : Room). r .token) (here lowered) ∙ without) (inv .served);
           unworn = refl;

@@ -6,7 +6,7 @@ use mathlib.Core.List.{[], List·Memᴰ·not-nil}
 use Prim.Native.Nat.{ℕ, _≤_, _<_}
 use native.Mathlib.Omega.{arith}
 use lib.Dec.{ltb}
-use lib.ListN.{length, replicate, getD-replicate}
+use lib.ListN.{replicate, getD-replicate}
 use borrow.Author.Tests.{ltb-true}
 use Rattle.base.specs.Choice.{by-test}
 use Rattle.base.specs.Tests.{clash}
@@ -75,7 +75,6 @@ module _ (n : ℕ) (some : 1 ≤ n) (most : n ≤ roomLimit) where
   unfolding folds
   clauses =
       record {
-        long = λ c l. ap length (blank c l .entries);
         ledger = λ p c lp lc e. no-entry p c lp (omega arith) ∙ sym (debt-none (rooms c) p (no-lender p c lp lc));
         links =
             record {

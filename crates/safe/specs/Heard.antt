@@ -6,6 +6,7 @@ use mathlib.Core.List.{List, [], _∷_, _++_, append-nil}
 use Prim.Native.Nat.{ℕ, _≤_, _<_}
 use native.Mathlib.Omega.{arith}
 use lib.Dec.{ltb, eqb}
+use lib.ListN.{length}
 use borrow.Author.Tests.{eq-eqb, eqb-false, not-true}
 use Rattle.base.specs.Choice.{by-test, split}
 use Rattle.base.specs.Tests.{and-left, and-right, clash}
@@ -14,7 +15,7 @@ use Rattle.base.specs.Lists.{Mem, count, remove, mem-remove, mem-at}
 use Rattle.modes.specs.Modes.{canLend}
 use Rattle.modes.proofs.Laws.{none-under}
 use Rattle.room.specs.declared.Room.{Room}
-use Rattle.room.specs.Limits.{nobody}
+use Rattle.room.specs.Limits.{roomLimit, nobody}
 use Rattle.room.specs.Owned.{owned}
 use Rattle.room.specs.Rules.{nextLink, isWorn, lent, lentTo}
 use Rattle.table.specs.declared.Wire.{Wire}
@@ -88,6 +89,9 @@ module _ (n : ℕ) (rooms : ℕ → Room) (messages : List Wire) (me : ℕ) (roo
   at-me : old me ≡ room
   at-me = changed-same rooms me room
 
+  long : length (old me .entries) ≡ roomLimit
+  long = rw at-me (taken .long)
+
   clauses : Clauses n old queue kept 1
   clauses = clauses-heard n old queue messages 0 k a me o m idle (inv .clauses) at
 
@@ -152,7 +156,7 @@ module _ (n : ℕ) (rooms : ℕ → Room) (messages : List Wire) (me : ℕ) (roo
         clauses = rw at-me at after-clauses;
         exact =
             but-lend n old new me low others (inv .exact) (inv .sound .room me low) (rw at-me without) (inv .clauses .pairs .room me low)
-            (λ j l. inv .clauses .small .entry me j low l) (inv .clauses .long me low) o (omega (arith, taken .small)) m (rw at-me can) now-lent;
+            (λ j l. inv .clauses .small .entry me j low l) long o (omega (arith, taken .small)) m (rw at-me can) now-lent;
         light =
             light-weaker n old new queue me low others (inv .light) (rw at-me without)
             (ap (λ (r : Room). r .wanted) here ∙ sym (ap (λ (r : Room). r .wanted) at-me))
@@ -208,7 +212,7 @@ module _ (n : ℕ) (rooms : ℕ → Room) (messages : List Wire) (me : ℕ) (roo
 
       after-clauses : Clauses n new queue (kept ++ (wire me o (msg.Grant m (nextLink (old me .counter))) ∷ [])) 0
       after-clauses =
-          clauses-lend n old new queue kept me low (taken .small) others 0 clauses o m near other now-lent (rw at-me can) (rw owns (none-under m)) quiet tree
+          clauses-lend n old new queue kept me low (taken .small) long others 0 clauses o m near other now-lent (rw at-me can) (rw owns (none-under m)) quiet tree
 
   lends : room .token ≡ false → idle ≡ true → o ≢ me → canLend (owned room) m ≡ true → Done n rooms kept (settle (lend w o m))
   unfolding lend send lent lentTo

@@ -6,6 +6,7 @@ use mathlib.Core.List.{List, [], _∷_, _++_, append-assoc, List·Memᴰ·head}
 use Prim.Native.Nat.{ℕ, _≤_, _<_}
 use native.Mathlib.Omega.{arith}
 use lib.Dec.{eqb}
+use lib.ListN.{length}
 use borrow.Author.Tests.{eq-eqb, eqb-true}
 use Rattle.base.specs.Choice.{split}
 use Rattle.base.specs.Sums.{one}
@@ -95,6 +96,9 @@ module _ (n : ℕ) (rooms : ℕ → Room) (kept : List Wire) (w : Work) (q : Que
 
   own : old me ≡ w .room
   own = changed-same rooms me (w .room)
+
+  long : length (old me .entries) ≡ roomLimit
+  long = rw own (a .whole .long)
 
   with-old : old me .token ≡ true
   with-old = ap (λ (r : Room). r .token) own ∙ with
@@ -214,7 +218,7 @@ module _ (n : ℕ) (rooms : ℕ → Room) (kept : List Wire) (w : Work) (q : Que
 
         clauses : Clauses n new rest (messages ++ (wire me y (msg.Grant m (nextLink (old me .counter))) ∷ [])) 0
         clauses =
-            clauses-lend n old new rest messages me low limit (others after) 0 in-hand-clauses y m (head .low) other now-lent can-old fit (λ v i b. none v i)
+            clauses-lend n old new rest messages me low limit long (others after) 0 in-hand-clauses y m (head .low) other now-lent can-old fit (λ v i b. none v i)
             (lend-root-tree n old new messages me low (others after) (a .clauses .tree) y m other now-lent (sound .room me low .token-free with-old)
             (λ v i j l e t. ungranted n old (q ∷ rest) messages empty 0 sound me with-old v i t j l e))
 
@@ -226,7 +230,7 @@ module _ (n : ℕ) (rooms : ℕ → Room) (kept : List Wire) (w : Work) (q : Que
           whole = turn-pass n rooms kept w q rest (a .whole) with other agree cannot;
           clauses = rw (← append-assoc kept (w .sent) (wire me y (msg.Token m (remaining (w .room) y) (nextLink (w .room .counter))) ∷ [])) (rw own at clauses);
           exact =
-              exact-pass n old new me low (others after) (a .exact) y (a .clauses .long me low) (omega (arith, head .low))
+              exact-pass n old new me low (others after) (a .exact) y long (omega (arith, head .low))
               (sound .room me low .nobody-none (sound .room me low .token-free with-old)) now-passed;
           light =
               light-turn n old new (q ∷ rest) me low (others after) (a .light) alone q rest refl (rw own agree)
@@ -246,5 +250,5 @@ module _ (n : ℕ) (rooms : ℕ → Room) (kept : List Wire) (w : Work) (q : Que
 
         clauses : Clauses n new rest (messages ++ (wire me y (msg.Token m (remaining (old me) y) (nextLink (old me .counter))) ∷ [])) 0
         clauses =
-            clauses-pass n old new rest messages me low limit (others after) (nameOf q) taken 0 in-hand-clauses y m (head .low) other unnamed now-passed with-old
+            clauses-pass n old new rest messages me low limit long (others after) (nameOf q) taken 0 in-hand-clauses y m (head .low) other unnamed now-passed with-old
             (head .some) (rw own agree) (rw own cannot) covered
