@@ -24,7 +24,6 @@ use Rattle.rules.specs.Rules.{upgradeWaits}
 use Rattle.facts.specs.Whole.{facts-of}
 use Rattle.kept.specs.Start.{sound}
 use Rattle.kept.specs.Fresh.{room-each, fresh-has}
-use Rattle.ledger.specs.Loans.{debt}
 use Rattle.ledger.specs.Debts.{debt-none}
 use Rattle.ledger.specs.Senders.{sender-none}
 use Rattle.owning.specs.Parts.{part}

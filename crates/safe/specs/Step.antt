@@ -38,7 +38,9 @@ use Rattle.kept.specs.Start.{same-rooms, start, take-oldest}
 use Rattle.bounds.specs.Limits.{messages-fit}
 use Rattle.safe.specs.Invariant.{Invariant}
 use Rattle.safe.specs.Done.{Done}
-use Rattle.safe.specs.Asks.{ask-safe, upgrade-safe, hand-back-safe}
+use Rattle.safe.specs.Asks.{ask-safe}
+use Rattle.safe.specs.Upgrades.{upgrade-safe}
+use Rattle.safe.specs.HandBacks.{hand-back-safe}
 use Rattle.safe.specs.Delivers.{receive-safe}
 
 -- A table of n rooms that has the invariant, in arrays as long as their types say.
