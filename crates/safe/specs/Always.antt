@@ -22,6 +22,7 @@ use Rattle.base.specs.Lists.{mem-at}
 use Rattle.facts.specs.Search.{oldest-low, oldest-there}
 use Rattle.kept.specs.Fresh.{fresh-has}
 use Rattle.tree.specs.Agreement.{agreement}
+use Rattle.bounds.specs.Bounds.{mostMessages}
 use Rattle.bounds.specs.Limits.{messages-most}
 use Rattle.safe.specs.Fresh.{fresh-safe}
 use Rattle.safe.specs.Reached.{Reached, Demand3}
@@ -40,7 +41,7 @@ module _ (n : ℕ) (t : Table) (r : Reached n t) where
   safe : Safe n t
   safe = reached-safe n t r
 
-  limit : t .n ≤ 16
+  limit : t .n ≤ roomLimit
   limit = omega (arith, safe .rooms, r .most)
 
   -- "there is always exactly one token, with one room or on one wire, and modes held by two rooms agree"
@@ -59,8 +60,8 @@ module _ (n : ℕ) (t : Table) (r : Reached n t) where
   pub reached-formed : wellFormed t ≡ true
   reached-formed = safe .lawful .0
 
-  -- at most 176 messages
-  pub reached-few : t .count ≤ 176
+  -- its messages are few
+  pub reached-few : t .count ≤ mostMessages
   reached-few = omega (arith, messages-count n t safe, messages-most (t .n) limit (roomAt t) (queueOf t) (messagesOf t) 0 (safe .invariant .clauses .few))
 
   -- a delivery on a wire with a message is accepted
