@@ -50,10 +50,12 @@ module _ (n : ℕ) (t : Table) (r : Reached n t) where
       record {
         rooms = safe .rooms;
         one-token = rw (← safe .rooms) (omega (arith, safe .invariant .sound .token));
-        agree = rw (← safe .rooms)
-            (agreement (t .n) (roomAt t) (messagesOf t) limit (safe .invariant .sound .room) (safe .invariant .clauses .ledger) (safe .invariant .exact)
+        agree =
+            λ c d p q other.
+            agreement (t .n) (roomAt t) (messagesOf t) limit (safe .invariant .sound .room) (safe .invariant .clauses .ledger) (safe .invariant .exact)
             (safe .invariant .clauses .small) (safe .invariant .clauses .pairs) (safe .invariant .clauses .fits) (safe .invariant .clauses .tree)
-            (omega (arith, safe .invariant .sound .token)) (λ w i. safe .invariant .sound .right w i .facts .to-low));
+            (omega (arith, safe .invariant .sound .token)) (λ w i. safe .invariant .sound .right w i .facts .to-low)
+            c d (omega (arith, safe .rooms)) (omega (arith, safe .rooms)) (λ e. omega arith);
       }
 
   -- a reached table is well formed, so a step on it needs no test
