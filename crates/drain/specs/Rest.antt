@@ -20,7 +20,7 @@ use Rattle.room.specs.declared.Entry.{Entry}
 use Rattle.room.specs.Limits.{roomLimit}
 use Rattle.room.specs.Record.{entryAt}
 use Rattle.room.specs.Owned.{owned, hasNoEntries}
-use Rattle.room.specs.Owning.{owned-none}
+use Rattle.room.proofs.Owning.{owned-none}
 use Rattle.table.specs.declared.Table.{Table}
 use Rattle.table.specs.declared.Queued.{Queued}
 use Rattle.table.specs.Tables.{roomAt, queueOf}

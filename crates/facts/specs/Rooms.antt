@@ -14,7 +14,7 @@ use Rattle.room.specs.declared.Entry.{Entry}
 use Rattle.room.specs.Limits.{roomLimit, nobody}
 use Rattle.room.specs.Record.{entryAt}
 use Rattle.room.specs.Owned.{owned}
-use Rattle.room.specs.Owning.{owned-either}
+use Rattle.room.proofs.Owning.{owned-either}
 use Rattle.table.specs.Formed.{entryFine, roomFine}
 
 -- room c's entry for room j, in a table of n rooms

@@ -16,7 +16,7 @@ use Rattle.room.specs.declared.Room.{Room}
 use Rattle.room.specs.Limits.{roomLimit}
 use Rattle.room.specs.Record.{noEntry, entryOf, withDebt, withCounter, setEntry}
 use Rattle.room.specs.Owned.{owned}
-use Rattle.room.specs.Owning.{owned-held}
+use Rattle.room.proofs.Owning.{owned-held}
 use Rattle.room.specs.Rules.{nextLink, isWorn, lentTo, lent, left, remaining, passedTo, passed}
 use Rattle.table.specs.declared.Wire.{Wire}
 use Rattle.table.specs.Formed.{due}

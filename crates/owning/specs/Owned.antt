@@ -13,7 +13,7 @@ use Rattle.room.specs.declared.Room.{Room}
 use Rattle.room.specs.Limits.{roomLimit}
 use Rattle.room.specs.Record.{entryAt}
 use Rattle.room.specs.Owned.{owned, hasNoEntries}
-use Rattle.room.specs.Owning.{owned-either, owned-held, owned-entry, no-entries-at}
+use Rattle.room.proofs.Owning.{owned-either, owned-held, owned-entry, no-entries-at}
 use Rattle.owning.specs.Parts.{part}
 use Rattle.owning.specs.Clauses.{Agreeing}
 

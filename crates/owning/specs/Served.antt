@@ -17,7 +17,7 @@ use Rattle.modes.proofs.Laws.{agrees-sym, past-agrees, agrees-W}
 use Rattle.room.specs.declared.Room.{Room}
 use Rattle.room.specs.Record.{withModes}
 use Rattle.room.specs.Owned.{owned, hasNoEntries}
-use Rattle.room.specs.Owning.{owned-held}
+use Rattle.room.proofs.Owning.{owned-held}
 use Rattle.room.specs.Rules.{lent, lentTo, left, passed, passedTo}
 use Rattle.table.specs.declared.Queued.{Queued}
 use Rattle.rules.specs.Work.{Work, send}

@@ -16,7 +16,7 @@ use Rattle.room.specs.declared.Room.{Room}
 use Rattle.room.specs.Limits.{roomLimit}
 use Rattle.room.specs.Record.{entryOf, entryAt, withModes, withDebt, setEntry}
 use Rattle.room.specs.Owned.{owned}
-use Rattle.room.specs.Owning.{owned-either}
+use Rattle.room.proofs.Owning.{owned-either}
 use Rattle.room.specs.Rules.{lentTo, remaining, passedTo, credited, tokenedBy, reduced}
 use Rattle.table.specs.declared.Wire.{Wire}
 use Rattle.table.specs.declared.Message.the-variants as msg

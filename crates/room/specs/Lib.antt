@@ -1,5 +1,4 @@
 pub mod Limits
 pub mod Record
 pub mod Owned
-pub mod Owning
 pub mod Rules

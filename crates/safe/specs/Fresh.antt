@@ -18,7 +18,7 @@ use Rattle.room.specs.declared.Entry.{Entry}
 use Rattle.room.specs.Limits.{roomLimit, nobody}
 use Rattle.room.specs.Record.{noEntry, entryAt}
 use Rattle.room.specs.Owned.{owned}
-use Rattle.room.specs.Owning.{owned-none, no-entries-of}
+use Rattle.room.proofs.Owning.{owned-none, no-entries-of}
 use Rattle.table.specs.Tables.{roomAt, queueOf, messagesOf, freshTable}
 use Rattle.rules.specs.Rules.{upgradeWaits}
 use Rattle.facts.specs.Whole.{facts-of}
