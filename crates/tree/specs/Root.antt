@@ -21,7 +21,7 @@ pub record Root (n : ℕ) (rooms : ℕ → Room) (messages : List Wire) (r : ℕ
   pub tokenless : (c : ℕ) → c < n → c ≢ r → rooms c .token ≡ false
   pub untold : (c : ℕ) → c < n → c ≢ r → NoTokenTo c messages
 
--- where an element passes a test there is one that does
+-- where the count is not zero some element passes the test
 list-found : {A : Type 0} (p : A → Bool) (l : List A) → 1 ≤ count p l → (a : A) × Mem a l × (p a ≡ true)
 unfolding total
 list-found p [] h = absurd (omega arith)
