@@ -1,11 +1,12 @@
 -- A test of every number below n, and its meaning at each number. Whatever is about n rooms is stated through it, once over n.
 use mathlib.Core.Path.{_≡_, refl, subst⁻¹}
 use mathlib.Core.Bool.{Bool, true, false, _&&_, and-false}
-use mathlib.Core.Logic.{⊎-elim}
+use mathlib.Core.Logic.{_⊎_, inl, inr, ⊎-elim}
 use Prim.Native.Nat.{ℕ, zero, suc, _+_, _<_}
 use native.Mathlib.Nat.{le-of-suc-le-suc, not-suc-le-zero, eq-or-lt-of-le}
 use native.Mathlib.Numerals.{add-one}
 use native.Mathlib.Omega.{arith}
+use Rattle.base.specs.Choice.{split}
 use Rattle.base.specs.Tests.{and-left, and-right, and-both}
 
 abbrev pub allBelow : ℕ → (ℕ → Bool) → Bool
@@ -31,6 +32,16 @@ pub all-fails : (f : ℕ → Bool) (n i : ℕ) → i < n → f i ≡ false → a
 all-fails f zero i h q = absurd (not-suc-le-zero h)
 all-fails f (suc n) i h q =
     ⊎-elim (λ e. rw (← e, q)) (λ l. rw (all-fails f n i l q) (and-false (f n))) (eq-or-lt-of-le (le-of-suc-le-suc h))
+
+-- some number below n passes a test, or none does
+pub some-or-none : (n : ℕ) (p : ℕ → Bool) → ((i : ℕ) × (i < n) × (p i ≡ true)) ⊎ ((i : ℕ) → i < n → p i ≡ false)
+some-or-none zero p = inr (λ i h. absurd (not-suc-le-zero h))
+some-or-none (suc n) p = split (p n) (λ q. inl (n, omega arith, q)) (λ q. go q (some-or-none n p))
+  where
+    go : p n ≡ false → ((i : ℕ) × (i < n) × (p i ≡ true)) ⊎ ((i : ℕ) → i < n → p i ≡ false)
+        → ((i : ℕ) × (i < suc n) × (p i ≡ true)) ⊎ ((i : ℕ) → i < suc n → p i ≡ false)
+    go q (inl (i, h, s)) = inl (i, omega arith, s)
+    go q (inr f) = inr (λ i h. ⊎-elim (λ e. subst⁻¹ (λ (m : ℕ). p m ≡ false) e q) (f i) (eq-or-lt-of-le (le-of-suc-le-suc h)))
 
 -- a test of all pairs and of all triples of numbers below n, for tables of codes
 abbrev pub allPairs : ℕ → (ℕ → ℕ → Bool) → Bool

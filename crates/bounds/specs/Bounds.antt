@@ -9,6 +9,7 @@ use Rattle.base.specs.Sums.{sum}
 use Rattle.base.specs.Lists.{total, count}
 use Rattle.modes.specs.Codes.{IR}
 use Rattle.room.specs.declared.Room.{Room}
+use Rattle.room.specs.Limits.{roomLimit}
 use Rattle.table.specs.declared.Wire.{Wire}
 use Rattle.table.specs.declared.Queued.{Queued}
 use Rattle.table.specs.declared.Message.{Message}
@@ -38,6 +39,10 @@ isRequest (msg.Reduce l m) = false
 abbrev pub Messages : ℕ → (ℕ → Room) → List Queued → List Wire → ℕ → Type 0
 Messages n rooms queue messages hand =
     total (λ w. weight (w .message)) messages + 3 * (length queue + hand) + sum n (λ c. level (rooms c .credit)) ≤ busyLimit + 5 * n
+
+-- so many at most: the 96 at which an ASK is refused, and five for each of 16 rooms
+abbrev pub mostMessages : ℕ
+mostMessages = busyLimit + 5 * roomLimit
 
 -- COUNTERS
 abbrev pub Counters : ℕ → (ℕ → Room) → List Queued → List Wire → ℕ → Type 0

@@ -1,20 +1,19 @@
 -- COUNTERS is kept by each change, with so many names in hand.
 use mathlib.Core.Path.{_≡_, refl, _∙_, ap}
 use mathlib.Core.Logic.{_≢_, _⊎_, inl, inr}
-use mathlib.Core.Bool.{Bool, _&&_}
+use mathlib.Core.Bool.{Bool}
 use mathlib.Core.List.{List, [], _∷_, _++_}
 use Prim.Native.Nat.{ℕ, _+_, _≤_, _<_}
 use native.Mathlib.Omega.{arith}
-use lib.Dec.{ltb, eqb}
+use lib.Dec.{ltb}
 use lib.ListN.{length, getD, length-append}
 use borrow.Author.Tests.{ltb-false}
 use Rattle.base.specs.Choice.{by-test}
 use Rattle.base.specs.Sums.{same?}
 use Rattle.base.specs.Lists.{remove}
-use Rattle.modes.specs.Modes.{isStronger}
 use Rattle.room.specs.declared.Room.{Room}
-use Rattle.room.specs.Limits.{nobody, lastLink}
-use Rattle.room.specs.Record.{entryOf, entryAt, withModes, withDebt, setEntry}
+use Rattle.room.specs.Limits.{lastLink}
+use Rattle.room.specs.Record.{withModes, withDebt}
 use Rattle.room.specs.Owned.{owned}
 use Rattle.room.specs.Rules.{nextLink, lentTo, left, remaining, passedTo, credited, tokenedBy, reduced}
 use Rattle.table.specs.declared.Wire.{Wire}
@@ -23,7 +22,7 @@ use Rattle.table.specs.declared.Message.the-variants as msg
 use Rattle.table.specs.Tables.{noWire}
 use Rattle.rules.specs.Limits.{wornLimit}
 use Rattle.facts.specs.Wires.{wire, leavingSent}
-use Rattle.facts.specs.Cases.{lifted-either}
+use Rattle.facts.specs.Cases.{passed-either, credited-either, reduced-either, lifted-either}
 use Rattle.bounds.specs.Bounds.{isRequest, Counters}
 use Rattle.bounds.specs.Weights.{requests, requests-sent, requests-taken, requests-leaving}
 
@@ -62,22 +61,15 @@ next-le k =
     by-test (λ (j : ℕ). j ≤ k + 1) (ltb k lastLink) (k + 1) lastLink (λ e. omega arith) (λ e. omega (arith, ltb-false k lastLink e))
 
 passed-counter : (r : Room) (y : ℕ) → passedTo r y .counter ≡ nextLink (r .counter)
-unfolding passedTo left
-passed-counter r y =
-    by-test (λ (s : Room). s .counter ≡ nextLink (r .counter)) (eqb (remaining r y) 0) (left r y)
-    (withDebt (left r y) y (remaining r y) (nextLink (r .counter))) (λ e. refl) (λ e. refl)
+unfolding left
+passed-counter r y = passed-either r y (λ (s : Room). s .counter ≡ nextLink (r .counter)) refl refl
 
 -- the counter after a settling, and after a REDUCE
 credited-counter : (r : Room) (m : ℕ) → credited r m .counter ≡ r .counter
-unfolding credited
-credited-counter r m =
-    by-test (λ (s : Room). s .counter ≡ r .counter) (eqb m 0) (withDebt r nobody m 0) (withDebt r (r .lender) m (r .link)) (λ e. refl) (λ e. refl)
+credited-counter r m = credited-either r m (λ (s : Room). s .counter ≡ r .counter) refl refl
 
 reduced-counter : (r : Room) (a l m : ℕ) → reduced r a l m .counter ≡ r .counter
-unfolding reduced
-reduced-counter r a l m =
-    by-test (λ (s : Room). s .counter ≡ r .counter) (eqb (entryAt r a .link) l && isStronger (entryAt r a .mode) m)
-    (setEntry r a (entryOf m l)) r (λ e. refl) (λ e. refl)
+reduced-counter r a l m = reduced-either r a l m (λ (s : Room). s .counter ≡ r .counter) refl refl
 
 -- Changes of one room's record.
 module _ (n : ℕ) (old new : ℕ → Room) (messages : List Wire) (me : ℕ) (low : me < n) (others : (c : ℕ) → c ≢ me → new c ≡ old c)

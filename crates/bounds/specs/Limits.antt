@@ -18,7 +18,7 @@ use Rattle.table.specs.Formed.{names}
 use Rattle.rules.specs.Limits.{busyLimit, wornLimit}
 use Rattle.facts.specs.Moments.{Formed}
 use Rattle.facts.specs.Names.{names-room}
-use Rattle.bounds.specs.Bounds.{level, Messages, Counters}
+use Rattle.bounds.specs.Bounds.{level, Messages, mostMessages, Counters}
 use Rattle.bounds.specs.Weights.{level-le, level-none, length-weights, weights-naming, requests-naming}
 
 -- An ASK that is not refused, by a room that nothing names, may have a name in hand.
@@ -46,7 +46,7 @@ pub messages-few : (n : ℕ) (rooms : ℕ → Room) (queue : List Queued) (messa
 messages-few n rooms queue messages hand b = omega (arith, b, length-weights messages)
 
 module _ (n : ℕ) (small : n ≤ roomLimit) (rooms : ℕ → Room) (queue : List Queued) (messages : List Wire) (hand : ℕ) where
-  pub messages-most : Messages n rooms queue messages hand → length messages ≤ 176
+  pub messages-most : Messages n rooms queue messages hand → length messages ≤ mostMessages
   messages-most b = omega (arith, messages-few n rooms queue messages hand b)
 
   -- the wires have places for all messages

@@ -1,21 +1,18 @@
 -- MESSAGES is kept by each change, with so many names in hand.
-use mathlib.Core.Path.{_≡_, refl, sym, ap}
+use mathlib.Core.Path.{_≡_, sym, ap}
 use mathlib.Core.Logic.{_≢_}
-use mathlib.Core.Bool.{Bool, true, _&&_}
+use mathlib.Core.Bool.{Bool, true}
 use mathlib.Core.List.{List, [], _∷_, _++_}
 use Prim.Native.Nat.{ℕ, _+_, _≤_, _<_}
 use native.Mathlib.Omega.{arith}
-use lib.Dec.{eqb}
 use lib.ListN.{length, getD, length-append}
-use Rattle.base.specs.Choice.{by-test}
 use Rattle.base.specs.Sums.{sum, sum-differ}
 use Rattle.base.specs.Lists.{remove}
 use Rattle.modes.specs.Codes.{IR}
 use Rattle.modes.specs.Modes.{isStronger}
 use Rattle.modes.proofs.Laws.{stronger-true}
 use Rattle.room.specs.declared.Room.{Room}
-use Rattle.room.specs.Limits.{nobody}
-use Rattle.room.specs.Record.{entryOf, entryAt, withModes, withDebt, setEntry}
+use Rattle.room.specs.Record.{withModes}
 use Rattle.room.specs.Owned.{owned}
 use Rattle.room.specs.Rules.{nextLink, lentTo, remaining, credited, tokenedBy, reduced}
 use Rattle.table.specs.declared.Wire.{Wire}
@@ -23,6 +20,7 @@ use Rattle.table.specs.declared.Queued.{Queued}
 use Rattle.table.specs.declared.Message.the-variants as msg
 use Rattle.table.specs.Tables.{noWire}
 use Rattle.facts.specs.Wires.{wire, leavingSent}
+use Rattle.facts.specs.Cases.{credited-credit, reduced-credit}
 use Rattle.bounds.specs.Bounds.{level, weight, Messages}
 use Rattle.bounds.specs.Weights.{level-le, level-none, level-falls, weights-sent, weights-taken, weights-leaving}
 
@@ -53,18 +51,6 @@ module _ (n : ℕ) (rooms : ℕ → Room) (queue : List Queued) (messages : List
   -- a room joins the end of the queue
   pub messages-joined : (q : Queued) → Messages n rooms queue messages (hand + 1) → Messages n rooms (queue ++ (q ∷ [])) messages hand
   messages-joined q before = omega (arith, before, length-append queue (q ∷ []))
-
--- the credit of a room that settled, and of one that took a REDUCE
-credited-credit : (r : Room) (m : ℕ) → credited r m .credit ≡ m
-unfolding credited
-credited-credit r m =
-    by-test (λ (s : Room). s .credit ≡ m) (eqb m 0) (withDebt r nobody m 0) (withDebt r (r .lender) m (r .link)) (λ e. refl) (λ e. refl)
-
-reduced-credit : (r : Room) (a l m : ℕ) → reduced r a l m .credit ≡ r .credit
-unfolding reduced
-reduced-credit r a l m =
-    by-test (λ (s : Room). s .credit ≡ r .credit) (eqb (entryAt r a .link) l && isStronger (entryAt r a .mode) m)
-    (setEntry r a (entryOf m l)) r (λ e. refl) (λ e. refl)
 
 -- Changes of one room's record.
 module _ (n : ℕ) (old new : ℕ → Room) (messages : List Wire) (me : ℕ) (low : me < n) (others : (c : ℕ) → c ≢ me → new c ≡ old c)

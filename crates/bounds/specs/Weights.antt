@@ -1,32 +1,31 @@
 -- Laws of levels and weights, and what one message more or less does to the weights and to the number of REQUESTs.
 use mathlib.Core.Path.{_≡_, ap}
-use mathlib.Core.Bool.{_||_}
 use mathlib.Core.List.{List, [], _∷_, _++_}
 use Prim.Native.Nat.{ℕ, _+_, _*_, _≤_, _<_}
 use native.Mathlib.Omega.{arith}
 use lib.Dec.{eqb}
 use lib.ListN.{length, getD}
 use borrow.Author.Tests.{eqb-false, eq-eqb, ne-eqb}
-use Rattle.base.specs.Choice.{if_then_else_, by-test, split}
+use Rattle.base.specs.Choice.{split}
 use Rattle.base.specs.Sums.{one}
 use Rattle.base.specs.Lists.{total, count, remove, total-append, total-snoc, total-remove}
 use Rattle.modes.specs.Codes.{IR}
 use Rattle.room.specs.declared.Room.{Room}
-use Rattle.room.specs.Limits.{nobody}
 use Rattle.table.specs.declared.Wire.{Wire}
 use Rattle.table.specs.declared.Message.{Message}
 use Rattle.table.specs.declared.Message.the-variants as msg
 use Rattle.table.specs.Tables.{noWire}
 use Rattle.facts.specs.Names.{isNaming}
 use Rattle.facts.specs.Wires.{wire, leavingSent}
+use Rattle.facts.specs.Cases.{leaving-either}
 use Rattle.bounds.specs.Bounds.{level, weight, isRequest}
 
 -- no mode has a level above 2
 pub level-le : (m : ℕ) → level m ≤ 2
 unfolding level
 level-le m =
-    by-test (λ (k : ℕ). k ≤ 2) (eqb m 0) 0 (if eqb m IR then 1 else 2) (λ e. omega arith)
-    (λ e. by-test (λ (k : ℕ). k ≤ 2) (eqb m IR) 1 2 (λ f. omega arith) (λ f. omega arith))
+    split (eqb m 0) (λ e. rw e (omega arith))
+    (λ e. split (eqb m IR) (λ f. rw (e, f) (omega arith)) (λ f. rw (e, f) (omega arith)))
 
 pub level-none : level 0 ≡ 0
 unfolding level
@@ -37,7 +36,7 @@ pub level-falls : (a b : ℕ) → a ≤ IR → a < b → level a < level b
 unfolding level
 level-falls a b low less =
     split (eqb a 0)
-    (λ e. rw (e, ne-eqb b 0 (λ f. omega arith)) (by-test (λ (k : ℕ). 0 < k) (eqb b IR) 1 2 (λ f. omega arith) (λ f. omega arith)))
+    (λ e. rw (e, ne-eqb b 0 (λ f. omega arith)) (split (eqb b IR) (λ f. rw f (omega arith)) (λ f. rw f (omega arith))))
     (λ e.
     let some = eqb-false a 0 e in
     rw (e, eq-eqb a IR (omega (arith, some)), ne-eqb b 0 (λ f. omega arith), ne-eqb b IR (λ f. omega (arith, some))) (omega arith))
@@ -117,19 +116,17 @@ module _ (l : List Wire) (k a b : ℕ) (m : Message) (inside : k < length l) (th
 -- what goes to the old lender: one REDUCE at most
 module _ (l : List Wire) (me : ℕ) (r : Room) (a : ℕ) where
   pub weights-leaving : weights (l ++ leavingSent me r a) ≤ weights l + 1
-  unfolding leavingSent total weight
+  unfolding total weight
   weights-leaving = omega (
     arith,
     total-append (λ w. weight (w .message)) l (leavingSent me r a),
-    by-test (λ (s : List Wire). weights s ≤ 1) (eqb (r .lender) nobody || eqb (r .lender) a) [] (wire me (r .lender) (msg.Reduce (r .link) 0) ∷ [])
-        (λ e. omega arith) (λ e. omega arith),
+    leaving-either me r a (λ (s : List Wire). weights s ≤ 1) (omega arith) (λ e. omega arith),
   )
 
   pub requests-leaving : requests (l ++ leavingSent me r a) ≡ requests l
-  unfolding leavingSent total isRequest
+  unfolding total isRequest
   requests-leaving = omega (
     arith,
     total-append (λ w. one (isRequest (w .message))) l (leavingSent me r a),
-    by-test (λ (s : List Wire). requests s ≡ 0) (eqb (r .lender) nobody || eqb (r .lender) a) [] (wire me (r .lender) (msg.Reduce (r .link) 0) ∷ [])
-        (λ e. omega arith) (λ e. omega arith),
+    leaving-either me r a (λ (s : List Wire). requests s ≡ 0) (omega arith) (λ e. omega arith),
   )

@@ -1,17 +1,16 @@
 -- Every delivery lowers the measure, whatever the message is.
 use mathlib.Core.Path.{_≡_, refl, sym, _∙_, ap, subst⁻¹}
 use mathlib.Core.Logic.{_≢_}
-use mathlib.Core.Bool.{Bool, true, false, not, _&&_, false≢true}
+use mathlib.Core.Bool.{Bool, true, false, not, _&&_}
 use mathlib.Core.List.{List, _++_, append-nil}
-use Prim.Native.Nat.{ℕ, _≤_, _<_}
+use Prim.Native.Nat.{ℕ, _<_}
 use native.Mathlib.Omega.{arith}
-use lib.Dec.{ltb, leb, eqb}
-use borrow.Author.Tests.{ltb-true, leb-true, eqb-true, eqb-false, not-true}
+use lib.Dec.{eqb}
+use borrow.Author.Tests.{eqb-false, not-true}
 use Rattle.base.specs.Choice.{by-test}
 use Rattle.base.specs.Tests.{and-left, and-right}
 use Rattle.base.specs.Sums.{one}
 use Rattle.base.specs.Lists.{remove}
-use Rattle.modes.specs.Codes.{IR, W}
 use Rattle.modes.specs.Modes.{canLend}
 use Rattle.room.specs.declared.Room.{Room}
 use Rattle.room.specs.Limits.{nobody}
@@ -22,9 +21,11 @@ use Rattle.table.specs.declared.Wire.{Wire}
 use Rattle.table.specs.declared.Queued.{Queued}
 use Rattle.table.specs.declared.Message.{Message}
 use Rattle.table.specs.declared.Message.the-variants as msg
-use Rattle.table.specs.Formed.{due, tokens, isMode, messageFine, namesRightly, isToken, isNamedIn}
+use Rattle.table.specs.Formed.{tokens, isToken, isNamedIn}
 use Rattle.rules.specs.Work.{Work, withRoom, send, join}
 use Rattle.rules.specs.Rules.{lend, settle, serve, settleOrServe, takeRequest, receive}
+use Rattle.facts.specs.Moments.{QueuedFacts}
+use Rattle.facts.specs.Messages.{proper}
 use Rattle.facts.specs.Wires.{wire, leavingSent}
 use Rattle.kept.specs.Changed.{changed, changed-same, changed-elsewhere}
 use Rattle.kept.specs.Moment.{Right, empty}
@@ -91,7 +92,7 @@ module _ (n : ℕ) (rooms : ℕ → Room) (messages : List Wire) (me : ℕ) (roo
           within = rw (append-nil kept) (omega (arith, potential-joined n old queue kept 0 height (record { room = o; mode = m })));
         }))
 
-    module _ (near : o < n) (some : 1 ≤ m) (code : m ≤ W) (waits : due (old o) ≡ m) (tokenless : old o .token ≡ false) (taken : At n rooms kept w (only o) 0)
+    module _ (named : QueuedFacts n old (record { room = o; mode = m })) (tokenless : old o .token ≡ false) (taken : At n rooms kept w (only o) 0)
         (without : room .token ≡ false) where
       -- "b lends, then settles"
       lent-lower : idle ≡ true → o ≢ me → canLend (owned room) m ≡ true → Lower n rooms kept before (settle (lend w o m))
@@ -99,7 +100,7 @@ module _ (n : ℕ) (rooms : ℕ → Room) (messages : List Wire) (me : ℕ) (roo
       lent-lower says other can =
           lower n rooms kept height (potential n old queue kept 1 height) before (settle (lend w o m)) taken-less
           (weighs-settle n rooms kept height (potential n old queue kept 1 height) (lend w o m)
-          (lent-owing n rooms messages me room queue inv k a o m idle at near some code waits tokenless taken without says other can)
+          (lent-owing n rooms messages me room queue inv k a o m idle at named tokenless taken without says other can)
           (record {
             leads = rw at-me at (leads-lend n old (new after) kept me (others after) height leads-taken o m lending);
             within = rw at-me at (not-more-lend n old (new after) kept me low (others after) queue 0 height o m lending);
@@ -123,15 +124,15 @@ module _ (n : ℕ) (rooms : ℕ → Room) (messages : List Wire) (me : ℕ) (roo
                 (inv .clauses .sender));
           }
 
-    request-lower : o < n → 1 ≤ m → m ≤ W → due (old o) ≡ m → old o .token ≡ false → At n rooms kept w (only o) 0
+    request-lower : QueuedFacts n old (record { room = o; mode = m }) → old o .token ≡ false → At n rooms kept w (only o) 0
         → Lower n rooms kept before (takeRequest w o m idle)
     unfolding takeRequest
-    request-lower near some code waits tokenless taken =
+    request-lower named tokenless taken =
         by-test (Lower n rooms kept before) (room .token) _ _ (λ with. joined-lower) λ without.
         by-test (Lower n rooms kept before) (idle && not (eqb o me) && canLend (owned room) m) _ _
-        (λ e. lent-lower near some code waits tokenless taken without (and-left idle _ (and-left _ _ e))
+        (λ e. lent-lower named tokenless taken without (and-left idle _ (and-left _ _ e))
         (eqb-false _ _ (not-true _ (and-right idle _ (and-left _ _ e)))) (and-right (idle && not (eqb o me)) _ e))
-        (λ e. sent-lower near some code waits tokenless taken without)
+        (λ e. sent-lower named tokenless taken without)
 
   -- a lender that is left is paid from the credit that it had given
   paid : old me .credit ≡ 0 → old me .lender ≡ nobody
@@ -212,15 +213,11 @@ module _ (n : ℕ) (rooms : ℕ → Room) (messages : List Wire) (me : ℕ) (roo
 
   pub receive-lower : (m : Message) → Oldest messages k a me m → Right n old (wire a me m)
       → At n rooms kept w (λ c. one (isNamedIn c me m)) (one (isToken m)) → Lower n rooms kept before (receive w a m)
-  unfolding receive isNamedIn isToken messageFine namesRightly
-  receive-lower msg.Nothing at r t = absurd (false≢true (r .facts .fine))
-  receive-lower (msg.Request o m idle) at r t =
-      request-lower o m idle at (ltb-true o n (and-left _ _ (r .facts .fine)))
-      (leb-true _ _ (and-left _ _ (and-right (ltb o n) (isMode m) (r .facts .fine))))
-      (leb-true _ _ (and-right (leb IR m) _ (and-right (ltb o n) (isMode m) (r .facts .fine))))
-      (eqb-true _ _ (r .facts .rightly)) (r .unowned o m idle refl) t
+  unfolding receive isNamedIn isToken
+  receive-lower msg.Nothing at r t = absurd (proper (r .facts))
+  receive-lower (msg.Request o m idle) at r t = request-lower o m idle at (proper (r .facts)) (r .unowned o m idle refl) t
   receive-lower (msg.Grant m l) at r t = grant-lower m l at
   receive-lower (msg.Token m rest l) at r t = token-lower m rest l at
   receive-lower (msg.Reduce l m) at r t =
       reduce-lower l m at (r .facts .from-low) (r .facts .apart) t
-      (reduced-kept n rooms kept w a (r .facts .from-low) (r .facts .apart) l m (leb-true _ _ (r .facts .fine)) t)
+      (reduced-kept n rooms kept w a (r .facts .from-low) (r .facts .apart) l m (proper (r .facts)) t)

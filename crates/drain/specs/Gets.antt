@@ -5,12 +5,12 @@ use mathlib.Core.Bool.{Bool, true, not, _&&_}
 use mathlib.Core.List.{List, [], _∷_, List·Memᴰ·head}
 use Prim.Native.Nat.{ℕ, _≤_}
 use native.Mathlib.Omega.{arith}
-use lib.Dec.{ltb, leb, eqb}
-use borrow.Author.Tests.{ltb-true, leb-true, eqb-true, eqb-false}
+use lib.Dec.{eqb}
+use borrow.Author.Tests.{eqb-true, eqb-false}
 use Rattle.base.specs.Choice.{by-test}
 use Rattle.base.specs.Tests.{and-left, and-right}
 use Rattle.base.specs.Sums.{one}
-use Rattle.modes.specs.Codes.{IR, U, W}
+use Rattle.modes.specs.Codes.{U, W}
 use Rattle.modes.specs.Modes.{isStronger, agrees, canLend}
 use Rattle.room.specs.declared.Room.{Room}
 use Rattle.room.specs.declared.Send.{Send}
@@ -24,10 +24,11 @@ use Rattle.table.specs.declared.Wire.{Wire}
 use Rattle.table.specs.declared.Queued.{Queued}
 use Rattle.table.specs.declared.Message.{Message}
 use Rattle.table.specs.declared.Message.the-variants as msg
-use Rattle.table.specs.Formed.{due, isMode, isToken, isNamedIn, messageFine, namesRightly}
+use Rattle.table.specs.Formed.{due, isToken, isNamedIn}
 use Rattle.rules.specs.Work.{Work, withRoom, withQueue, send, join, sendOut, change}
 use Rattle.rules.specs.Rules.{hold, lend, pass, settle, upgradeWaits, upgraded, serveQueue, serve, settleOrServe, handBack, takeRequest, receive}
 use Rattle.facts.specs.Moments.{QueuedFacts}
+use Rattle.facts.specs.Messages.{proper}
 use Rattle.facts.specs.Wires.{wire}
 use Rattle.kept.specs.Changed.{changed-same}
 use Rattle.kept.specs.Moment.{Right, empty}
@@ -35,7 +36,7 @@ use Rattle.kept.specs.Acts.{At, Whole, now, only, put-joined}
 use Rattle.kept.specs.Asks.{hold-kept}
 use Rattle.kept.specs.Turns.{turn-self, turn-lend}
 use Rattle.kept.specs.Serve.{upgraded-kept, upgraded-token}
-use Rattle.kept.specs.Delivers.{grant-modes, arrived-kept, reduced-kept}
+use Rattle.kept.specs.Delivers.{arrived-kept, reduced-kept}
 use Rattle.facts.specs.Cases.{reduced-either}
 use Rattle.safe.specs.Turning.{due-wants}
 
@@ -178,30 +179,14 @@ module _ (n : ℕ) (rooms : ℕ → Room) (kept : List Wire) where
     -- whatever the message is
     pub receive-got : (a : ℕ) (m : Message) → Right n (now rooms w) (wire a (w .me) m)
         → At n rooms kept w (λ c. one (isNamedIn c (w .me) m)) (one (isToken m)) → Got (receive w a m)
-    unfolding receive isNamedIn isToken messageFine namesRightly
+    unfolding receive isNamedIn isToken
     receive-got a msg.Nothing r t = got
-    receive-got a (msg.Request o m idle) r t =
-        request-got o m idle
-        (record {
-          low = ltb-true o n (and-left _ _ (r .facts .fine));
-          some = leb-true _ _ (and-left _ _ (and-right (ltb o n) (isMode m) (r .facts .fine)));
-          code = leb-true _ _ (and-right (leb IR m) _ (and-right (ltb o n) (isMode m) (r .facts .fine)));
-          waits = eqb-true _ _ (r .facts .rightly);
-        })
-        t
-    receive-got a (msg.Grant m l) r t = grant-got a m (grant-modes m (r .facts .fine) .0) (eqb-true _ _ (and-left _ _ (r .facts .rightly))) l
+    receive-got a (msg.Request o m idle) r t = request-got o m idle (proper (r .facts)) t
+    receive-got a (msg.Grant m l) r t = grant-got a m (proper (r .facts) .some) (proper (r .facts) .waits) l
     receive-got a (msg.Token m rest l) r t =
-        token-got a m some waits rest l
-        (arrived-kept n rooms kept w a (r .facts .from-low) (r .facts .apart) m rest l some
-        (leb-true _ _ (and-right (leb IR m) _ (and-left (isMode m) _ (r .facts .fine))))
-        (leb-true _ _ (and-right (isMode m) _ (r .facts .fine))) waits t)
-      where
-        some : 1 ≤ m
-        some = leb-true _ _ (and-left _ _ (and-left (isMode m) _ (r .facts .fine)))
-
-        waits : due (now rooms w (w .me)) ≡ m
-        waits = eqb-true _ _ (r .facts .rightly)
+        token-got a m (proper (r .facts) .some) (proper (r .facts) .waits) rest l
+        (arrived-kept n rooms kept w a (r .facts .from-low) (r .facts .apart) m rest l (proper (r .facts)) t)
     receive-got a (msg.Reduce l m) r t =
         settle-or-serve-got (withRoom w (reduced (w .room) a l m))
-        (reduced-kept n rooms kept w a (r .facts .from-low) (r .facts .apart) l m (leb-true _ _ (r .facts .fine)) t)
+        (reduced-kept n rooms kept w a (r .facts .from-low) (r .facts .apart) l m (proper (r .facts)) t)
         (reduced-either (w .room) a l m (Gets (rooms (w .me))) (alike (rooms (w .me)) (w .room) _ refl refl got) got)

@@ -26,7 +26,7 @@ use Rattle.measure.specs.Heights.{leads-modes, leads-settle}
 use Rattle.measure.specs.Falls.{falls-handed, not-more-settle}
 use Rattle.safe.specs.Done.{Done}
 use Rattle.safe.specs.Settle.{Owing}
-use Rattle.safe.specs.Asks.{handed-owing}
+use Rattle.safe.specs.HandBacks.{handed-owing}
 use Rattle.drain.specs.Weighs.{Rests, weighs-serve}
 
 -- after what a room has done some heights lead to the token, and the measure by them is below b

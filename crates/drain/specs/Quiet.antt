@@ -1,15 +1,14 @@
 -- A quiet table: nothing is under way, and whoever holds waits. From any other some delivery or hand-back is accepted.
-use mathlib.Core.Path.{_≡_, refl, subst⁻¹}
-use mathlib.Core.Logic.{_≢_, _⊎_, inl, inr, ⊎-elim}
+use mathlib.Core.Path.{_≡_, refl}
+use mathlib.Core.Logic.{_≢_, _⊎_, inl, inr}
 use mathlib.Core.Bool.{Bool, true, false, not, _&&_}
 use mathlib.Core.List.{List, [], _∷_}
-use Prim.Native.Nat.{ℕ, zero, suc, _<_}
-use native.Mathlib.Nat.{le-of-suc-le-suc, not-suc-le-zero, eq-or-lt-of-le}
+use Prim.Native.Nat.{ℕ, _<_}
 use native.Mathlib.Omega.{arith}
 use lib.Dec.{eqb}
 use borrow.Author.Tests.{eq-eqb, ne-eqb, eqb-true, eqb-false, not-true}
-use Rattle.base.specs.Choice.{split}
 use Rattle.base.specs.Tests.{and-left, and-right, clash}
+use Rattle.base.specs.Below.{some-or-none}
 use Rattle.table.specs.declared.Table.{Table}
 use Rattle.table.specs.declared.Wire.{Wire}
 use Rattle.table.specs.declared.Found.the-variants as found
@@ -37,16 +36,6 @@ delivery a b = record { kind = DELIVER; room = a; other = b; mode = 0 }
 
 abbrev handing : ℕ → Event
 handing c = record { kind = HANDBACK; room = c; other = 0; mode = 0 }
-
--- some number below n passes a test, or none does
-pub some-or-none : (n : ℕ) (p : ℕ → Bool) → ((i : ℕ) × (i < n) × (p i ≡ true)) ⊎ ((i : ℕ) → i < n → p i ≡ false)
-some-or-none zero p = inr (λ i h. absurd (not-suc-le-zero h))
-some-or-none (suc n) p = split (p n) (λ q. inl (n, omega arith, q)) (λ q. go q (some-or-none n p))
-  where
-    go : p n ≡ false → ((i : ℕ) × (i < n) × (p i ≡ true)) ⊎ ((i : ℕ) → i < n → p i ≡ false)
-        → ((i : ℕ) × (i < suc n) × (p i ≡ true)) ⊎ ((i : ℕ) → i < suc n → p i ≡ false)
-    go q (inl (i, h, s)) = inl (i, omega arith, s)
-    go q (inr f) = inr (λ i h. ⊎-elim (λ e. subst⁻¹ (λ (m : ℕ). p m ≡ false) e q) (f i) (eq-or-lt-of-le (le-of-suc-le-suc h)))
 
 -- the first message of all is the oldest on its wire
 first-found : (t : Table) (w : Wire) (l : List Wire) → messagesOf t ≡ w ∷ l → oldestOf t (w .«from») (w .to) ≡ found.At 0 (w .message)

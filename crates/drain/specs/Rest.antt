@@ -9,7 +9,7 @@ use lib.Dec.{ltb, eqb}
 use borrow.Author.Tests.{ltb-false, eqb-false}
 use Rattle.base.specs.Choice.{split}
 use Rattle.base.specs.Tests.{clash}
-use Rattle.base.specs.Below.{all-of}
+use Rattle.base.specs.Below.{all-of, some-or-none}
 use Rattle.base.specs.Sums.{one, sum, sum-at, sum-bound, same?, below?}
 use Rattle.base.specs.Lists.{Mem, total}
 use Rattle.base.specs.Folds.{folds}
@@ -20,6 +20,7 @@ use Rattle.room.specs.declared.Entry.{Entry}
 use Rattle.room.specs.Limits.{roomLimit}
 use Rattle.room.specs.Record.{entryAt}
 use Rattle.room.specs.Owned.{owned, hasNoEntries}
+use Rattle.room.proofs.Owning.{owned-none}
 use Rattle.table.specs.declared.Table.{Table}
 use Rattle.table.specs.declared.Queued.{Queued}
 use Rattle.table.specs.Tables.{roomAt, queueOf}
@@ -30,13 +31,12 @@ use Rattle.facts.specs.Moments.{QueuedFacts}
 use Rattle.ledger.specs.Loans.{debt}
 use Rattle.ledger.specs.Debts.{debt-here, debt-none}
 use Rattle.owning.specs.Clauses.{Blocked}
-use Rattle.owning.specs.Owned.{owned-none}
 use Rattle.safe.specs.Invariant.{Invariant}
 use Rattle.safe.specs.Reached.{Reached}
 use Rattle.safe.specs.Step.{Safe}
 use Rattle.safe.specs.Always.{reached-safe}
 use Rattle.drain.specs.Drains.{Resting}
-use Rattle.drain.specs.Quiet.{Quiet, some-or-none, quiet-or-moves}
+use Rattle.drain.specs.Quiet.{Quiet, quiet-or-moves}
 
 -- a room that owns nothing does not block the head of a queue
 unblocked : (n : ℕ) (rooms : ℕ → Room) (r : Room) (queue : List Queued) → ((q : Queued) → Mem q queue → QueuedFacts n rooms q)

@@ -34,7 +34,7 @@ use Rattle.ledger.specs.Takes.{Oldest}
 use Rattle.measure.specs.Way.{Leads}
 use Rattle.measure.specs.Measure.{potential}
 use Rattle.safe.specs.Done.{Done}
-use Rattle.safe.specs.Asks.{hand-back-safe}
+use Rattle.safe.specs.HandBacks.{hand-back-safe}
 use Rattle.safe.specs.Delivers.{receive-safe}
 use Rattle.safe.specs.Step.{Safe, made-is, begins, here, shaped, facts, unowned}
 use Rattle.drain.specs.Drains.{isDraining}

@@ -34,7 +34,8 @@ use Rattle.base.specs.Ranks.{rerooted}
 use Rattle.measure.specs.Way.{Leads}
 use Rattle.measure.specs.Heights.{leads-modes, leads-request-sent}
 use Rattle.measure.specs.Start.{leads-fresh}
-use Rattle.safe.specs.Asks.{ask-safe, upgrade-safe}
+use Rattle.safe.specs.Asks.{ask-safe}
+use Rattle.safe.specs.Upgrades.{upgrade-safe}
 use Rattle.safe.specs.Step.{Safe, begins, shaped, facts, unowned, messages-count, step-refused, step-safe}
 use Rattle.drain.specs.Drains.{isDraining}
 use Rattle.drain.specs.Steps.{LeadsIn, led-after, led-here, drains-lower}

@@ -6,7 +6,7 @@ use mathlib.Core.List.{List, _∷_}
 use Prim.Native.Nat.{ℕ, _≤_, _<_}
 use native.Mathlib.Omega.{arith}
 use lib.Dec.{ltb, leb, eqb}
-use borrow.Author.Tests.{ltb-true, leb-true, leb-false, eqb-true, eqb-false, not-false}
+use borrow.Author.Tests.{ltb-true, leb-true, leb-false, eqb-true, eqb-false, ne-eqb, not-false}
 use Rattle.base.specs.Choice.{by-test}
 use Rattle.base.specs.Tests.{and-left, and-right}
 use Rattle.base.specs.Below.{all-at}
@@ -21,7 +21,7 @@ use Rattle.table.specs.Oldest.{oldestOf}
 use Rattle.table.specs.Formed.{isMode, wellFormed}
 use Rattle.rules.specs.declared.Event.{Event}
 use Rattle.rules.specs.Limits.{busyLimit, wornLimit}
-use Rattle.rules.specs.Events.{isAsk, isUpgrade, isHandBack, isDeliver}
+use Rattle.rules.specs.Events.{DELIVER, isAsk, isUpgrade, isHandBack, isDeliver}
 use Rattle.rules.specs.Step.{made, stepOf}
 use Rattle.rules.specs.Refusals.{Row, row, first, refusal, refusalAs, refusal-told, isFound, anyWorn}
 
@@ -107,6 +107,10 @@ Accepted t e = AcceptedAs (wellFormed t) t e
 
 pub accepted : (t : Table) (e : Event) → refusal t e ≡ 0 → Accepted t e
 accepted t e h = accepted-as (wellFormed t) t e (refusal-told t e ∙ h)
+
+-- an event of another kind than DELIVER is of a room that does not wait
+pub kind-idle : (t : Table) (e : Event) → Accepted t e → (k : ℕ) → e .kind ≡ k → k < DELIVER → roomAt t (e .room) .wanted ≡ 0
+kind-idle t e a k is other = a .idle (ne-eqb (e .kind) DELIVER (λ z. omega arith))
 
 -- an event that was accepted is one that no refusal applies to
 pub unrefused : (t : Table) (e : Event) → stepOf t e .«number» ≡ DONE → refusal t e ≡ DONE

@@ -1,28 +1,38 @@
 -- The rules for a room's record that go by a test: what holds of both outcomes holds of what comes out.
-use mathlib.Core.Logic.{_≢_}
+use mathlib.Core.Path.{_≡_, refl}
+use mathlib.Core.Logic.{_≢_, _⊎_, inl, inr, ⊎-elim}
 use mathlib.Core.Bool.{_||_, _&&_}
 use mathlib.Core.List.{List, [], _∷_}
 use Prim.Native.Nat.{ℕ, _≤_, _<_}
 use lib.Dec.{ltb, eqb}
-use borrow.Author.Tests.{ltb-true, ltb-false, eq-eqb}
+use borrow.Author.Tests.{ltb-true, ltb-false, eqb-true, eq-eqb}
 use Rattle.base.specs.Choice.{by-test}
-use Rattle.base.specs.Tests.{or-left, clash}
+use Rattle.base.specs.Tests.{or-use, or-left, clash}
 use Rattle.modes.specs.Modes.{isStronger}
 use Rattle.room.specs.declared.Room.{Room}
+use Rattle.room.specs.declared.Send.{Send}
+use Rattle.room.specs.declared.Send.the-variants as out
 use Rattle.room.specs.Limits.{nobody}
 use Rattle.room.specs.Record.{entryOf, entryAt, withDebt, setEntry}
-use Rattle.room.specs.Rules.{nextLink, left, remaining, passedTo, credited, lifted, reduced}
+use Rattle.room.specs.Rules.{nextLink, left, remaining, passedTo, credited, leaving, lifted, reduced}
 use Rattle.table.specs.declared.Wire.{Wire}
 use Rattle.table.specs.declared.Message.the-variants as msg
-use Rattle.facts.specs.Wires.{wire, leavingSent}
+use Rattle.facts.specs.Wires.{wire, sentBy, leavingSent}
 
--- to the old lender: nothing, or a REDUCE from a room that has one
+-- to the old lender: nothing if there is none, or if it stays the lender, else a REDUCE
+pub leaving-send : (r : Room) (a : ℕ) (P : Send → Type 0) → ((r .lender ≡ nobody) ⊎ (r .lender ≡ a) → P out.Nothing)
+    → (r .lender ≢ nobody → P (out.Reduce (r .lender) (r .link) 0)) → P (leaving r a)
+unfolding leaving
+leaving-send r a P p q =
+    by-test P (eqb (r .lender) nobody || eqb (r .lender) a) out.Nothing (out.Reduce (r .lender) (r .link) 0)
+    (λ e. p (⊎-elim (λ h. inl (eqb-true _ _ h)) (λ h. inr (eqb-true _ _ h)) (or-use (eqb (r .lender) nobody) (eqb (r .lender) a) e)))
+    (λ e. q (λ h. clash (or-left (eqb (r .lender) nobody) (eqb (r .lender) a) (eq-eqb (r .lender) nobody h)) e))
+
+-- the same of the messages that are sent
 pub leaving-either : (me : ℕ) (r : Room) (a : ℕ) (P : List Wire → Type 0) → P []
     → (r .lender ≢ nobody → P (wire me (r .lender) (msg.Reduce (r .link) 0) ∷ [])) → P (leavingSent me r a)
 unfolding leavingSent
-leaving-either me r a P p q =
-    by-test P (eqb (r .lender) nobody || eqb (r .lender) a) [] (wire me (r .lender) (msg.Reduce (r .link) 0) ∷ []) (λ e. p)
-    (λ e. q (λ h. clash (or-left (eqb (r .lender) nobody) (eqb (r .lender) a) (eq-eqb (r .lender) nobody h)) e))
+leaving-either me r a P p q = leaving-send r a (λ (s : Send). P (sentBy me s)) (λ e. p) q
 
 -- a pass: something remains or not
 pub passed-either : (r : Room) (y : ℕ) (P : Room → Type 0) → P (left r y) → P (withDebt (left r y) y (remaining r y) (nextLink (r .counter)))
@@ -37,11 +47,19 @@ pub credited-either : (r : Room) (m : ℕ) (P : Room → Type 0) → P (withDebt
 unfolding credited
 credited-either r m P p q = by-test P (eqb m 0) (withDebt r nobody m 0) (withDebt r (r .lender) m (r .link)) (λ e. p) (λ e. q)
 
+-- what is owed then
+pub credited-credit : (r : Room) (m : ℕ) → credited r m .credit ≡ m
+credited-credit r m = credited-either r m (λ (s : Room). s .credit ≡ m) refl refl
+
 -- a REDUCE: taken, or dropped
 pub reduced-either : (r : Room) (a l m : ℕ) (P : Room → Type 0) → P (setEntry r a (entryOf m l)) → P r → P (reduced r a l m)
 unfolding reduced
 reduced-either r a l m P p q =
     by-test P (eqb (entryAt r a .link) l && isStronger (entryAt r a .mode) m) (setEntry r a (entryOf m l)) r (λ e. p) (λ e. q)
+
+-- what is owed stays
+pub reduced-credit : (r : Room) (a l m : ℕ) → reduced r a l m .credit ≡ r .credit
+reduced-credit r a l m = reduced-either r a l m (λ (s : Room). s .credit ≡ r .credit) refl refl
 
 -- a counter that a TOKEN lifts: the larger of the two numbers
 pub lifted-either : (k l : ℕ) (P : ℕ → Type 0) → (k < l → P l) → (l ≤ k → P k) → P (lifted k l)

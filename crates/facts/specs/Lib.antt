@@ -2,9 +2,11 @@ pub mod Places
 pub mod Shapes
 pub mod Rooms
 pub mod Moments
+pub mod Messages
 pub mod Blank
 pub mod Whole
 pub mod Names
+pub mod Tokens
 pub mod Search
 pub mod Accepted
 pub mod Wires

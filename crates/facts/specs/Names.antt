@@ -6,8 +6,6 @@ use Prim.Native.Nat.{ℕ, _+_, _≤_, _<_}
 use native.Mathlib.Omega.{arith}
 use lib.Dec.{ltb, eqb}
 use lib.ListN.{length}
-use borrow.Author.Tests.{ltb-true}
-use Rattle.base.specs.Tests.{and-left}
 use Rattle.base.specs.Sums.{one, one-le, sum, sum-add, sum-bound, sum-hit, sum-short}
 use Rattle.base.specs.Lists.{count, total-cong, total-one, sum-total}
 use Rattle.room.specs.declared.Room.{Room}
@@ -15,8 +13,9 @@ use Rattle.table.specs.declared.Wire.{Wire}
 use Rattle.table.specs.declared.Queued.{Queued}
 use Rattle.table.specs.declared.Message.{Message}
 use Rattle.table.specs.declared.Message.the-variants as msg
-use Rattle.table.specs.Formed.{due, isMode, messageFine, isNamedIn, names}
+use Rattle.table.specs.Formed.{due, isNamedIn, names}
 use Rattle.facts.specs.Moments.{Formed}
+use Rattle.facts.specs.Messages.{Proper, proper}
 
 -- a REQUEST, GRANT or TOKEN names a room
 unfoldable pub isNaming : Message → Bool
@@ -27,13 +26,14 @@ isNaming (msg.Token m rest l) = true
 isNaming (msg.Reduce l m) = false
 
 -- how many rooms of n a message names: one or none
-names-one : (n to : ℕ) (m : Message) → to < n → messageFine n m ≡ true → sum n (λ c. one (isNamedIn c to m)) ≡ one (isNaming m)
-unfolding isNamedIn isNaming messageFine
-names-one n to msg.Nothing h f = omega (arith, sum-bound n 0 (λ c. 0) (λ c k. omega arith))
-names-one n to (msg.Request o m idle) h f = sum-hit n o (ltb-true o n (and-left (ltb o n) (isMode m) f))
-names-one n to (msg.Grant m l) h f = sum-hit n to h
-names-one n to (msg.Token m rest l) h f = sum-hit n to h
-names-one n to (msg.Reduce l m) h f = omega (arith, sum-bound n 0 (λ c. 0) (λ c k. omega arith))
+names-one : (n : ℕ) (rooms : ℕ → Room) (to : ℕ) (m : Message) → to < n → Proper n rooms to m
+    → sum n (λ c. one (isNamedIn c to m)) ≡ one (isNaming m)
+unfolding isNamedIn isNaming
+names-one n rooms to msg.Nothing h p = absurd p
+names-one n rooms to (msg.Request o m idle) h p = sum-hit n o (p .low)
+names-one n rooms to (msg.Grant m l) h p = sum-hit n to h
+names-one n rooms to (msg.Token m rest l) h p = sum-hit n to h
+names-one n rooms to (msg.Reduce l m) h p = omega (arith, sum-bound n 0 (λ c. 0) (λ c k. omega arith))
 
 module _ (n : ℕ) (rooms : ℕ → Room) (queue : List Queued) (messages : List Wire) (f : Formed n rooms queue messages) where
   -- the places of the queue, counted room by room
@@ -48,7 +48,7 @@ module _ (n : ℕ) (rooms : ℕ → Room) (queue : List Queued) (messages : List
   message-sum =
       sum-total n (λ c w. one (isNamedIn c (w .to) (w .message))) messages
       ∙ total-cong (λ w. sum n (λ c. one (isNamedIn c (w .to) (w .message)))) (λ w. one (isNaming (w .message))) messages
-      (λ w m. names-one n (w .to) (w .message) (f .message w m .to-low) (f .message w m .fine))
+      (λ w m. names-one n rooms (w .to) (w .message) (f .message w m .to-low) (proper (f .message w m)))
 
   -- no room is named twice
   pub named-once : (c : ℕ) → c < n → names queue messages c ≤ 1

@@ -13,6 +13,8 @@ use Rattle.room.specs.declared.Room.{Room}
 use Rattle.room.specs.declared.Entry.{Entry}
 use Rattle.room.specs.Limits.{roomLimit, nobody}
 use Rattle.room.specs.Record.{entryAt}
+use Rattle.room.specs.Owned.{owned}
+use Rattle.room.proofs.Owning.{owned-either}
 use Rattle.table.specs.Formed.{entryFine, roomFine}
 
 -- room c's entry for room j, in a table of n rooms
@@ -54,6 +56,10 @@ pub record RoomFacts (n c : ℕ) (r : Room) : Type 0 where
   pub upgrade : r .held ≢ 0 → r .wanted ≢ 0 → (r .held ≡ U) × (r .wanted ≡ W)
   -- each entry
   pub entry : (j : ℕ) → j < roomLimit → EntryFacts n c j (entryAt r j)
+
+-- what a room owns is a code, since its modes are
+pub owned-code : (n c : ℕ) (r : Room) → RoomFacts n c r → owned r ≤ W
+owned-code n c r f = owned-either r (λ (m : ℕ). m ≤ W) (f .held-code) (λ j l. f .entry j l .code)
 
 -- a test on one number, read as "gives"
 gives : (a b c d : ℕ) → (eqb a b implies eqb c d) ≡ true → a ≡ b → c ≡ d

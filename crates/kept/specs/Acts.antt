@@ -8,16 +8,17 @@ use native.Mathlib.Omega.{arith}
 use lib.Dec.{eqb}
 use lib.ListN.{length}
 use Rattle.base.specs.Sums.{one}
-use Rattle.modes.specs.Under.{small}
 use Rattle.room.specs.declared.Room.{Room}
 use Rattle.room.specs.Limits.{roomLimit}
 use Rattle.table.specs.declared.Wire.{Wire}
 use Rattle.table.specs.declared.Message.{Message}
 use Rattle.table.specs.declared.Message.the-variants as msg
-use Rattle.table.specs.Formed.{due, messageFine, namesRightly, isToken, isNamedIn, names}
+use Rattle.table.specs.Formed.{due, isToken, isNamedIn, names}
 use Rattle.rules.specs.Work.{Work, withRoom, send, join}
 use Rattle.facts.specs.Rooms.{RoomFacts}
 use Rattle.facts.specs.Moments.{QueuedFacts}
+use Rattle.facts.specs.Messages.{Proper, in-use}
+use Rattle.facts.specs.Wires.{wire}
 use Rattle.kept.specs.Changed.{changed, changed-same, changed-elsewhere}
 use Rattle.kept.specs.Moment.{Moment, waiting, empty}
 use Rattle.kept.specs.Hand.{put-message, put-queued}
@@ -105,28 +106,22 @@ module _ (n : ℕ) (rooms : ℕ → Room) (kept : List Wire) (w : Work) where
   -- a message is sent, with the names and the token that it carries
   module _ (hand : ℕ → ℕ) (loose : ℕ) (a : At n rooms kept w hand loose) where
     pub put-sent : (y : ℕ) (m : Message) (left : ℕ → ℕ) (rest : ℕ)
-        → y < n → y ≢ w .me → messageFine n m ≡ true → namesRightly (now rooms w) y m ≡ true
+        → y < n → y ≢ w .me → Proper n (now rooms w) y m
         → ((o k : ℕ) (idle : Bool) → m ≡ msg.Request o k idle → now rooms w o .token ≡ false)
         → ((c : ℕ) → c < n → hand c ≡ one (isNamedIn c y m) + left c) → loose ≡ one (isToken m) + rest
         → At n rooms kept (send w y m) left rest
     unfolding send
-    put-sent y m left rest low other fine rightly unowned names token =
+    put-sent y m left rest low other proper unowned names token =
         record {
           small = a .small;
           low = a .low;
           long = a .long;
           moment =
-              rw (← append-assoc kept (w .sent) (wire ∷ []))
-              (put-message n (now rooms w) (w .queue) (kept ++ w .sent) hand left loose rest (a .moment) wire
-              (record {
-                facts = record { from-low = a .low; to-low = low; apart = λ e. other (sym e); fine = fine; rightly = rightly };
-                unowned = unowned;
-              })
+              rw (← append-assoc kept (w .sent) (wire (w .me) y m ∷ []))
+              (put-message n (now rooms w) (w .queue) (kept ++ w .sent) hand left loose rest (a .moment) (wire (w .me) y m)
+              (record { facts = in-use n (now rooms w) (wire (w .me) y m) (a .low) low (λ e. other (sym e)) proper; unowned = unowned })
               names token);
         }
-      where
-        wire : Wire
-        wire = record { «from» = w .me; to = y; message = m }
 
     -- room y joins the queue
     pub put-joined : (y m : ℕ) (left : ℕ → ℕ) → QueuedFacts n (now rooms w) (record { room = y; mode = m })

@@ -1,7 +1,6 @@
 -- ASK, UPGRADE and HANDBACK keep a moment whole.
 use mathlib.Core.Path.{_≡_, refl, sym, _∙_, ap}
-use mathlib.Core.Logic.{_≢_}
-use mathlib.Core.Bool.{true, false, _&&_, false≢true}
+use mathlib.Core.Bool.{true, false, _&&_}
 use mathlib.Core.List.{List, _++_}
 use Prim.Native.Nat.{ℕ, _≤_}
 use native.Mathlib.Omega.{arith}
@@ -12,8 +11,7 @@ use Rattle.base.specs.Tests.{clash}
 use Rattle.base.specs.Sums.{one}
 use Rattle.modes.specs.Codes.{U, W}
 use Rattle.modes.specs.Modes.{agrees, canLend}
-use Rattle.modes.specs.Under.{small}
-use Rattle.modes.proofs.Laws.{lends-small}
+use Rattle.modes.proofs.Laws.{lends-small, small-weak}
 use Rattle.room.specs.declared.Room.{Room}
 use Rattle.room.specs.Record.{withModes}
 use Rattle.room.specs.Owned.{owned, hasNoEntries}
@@ -23,6 +21,7 @@ use Rattle.table.specs.Formed.{due, names}
 use Rattle.rules.specs.Work.{Work, send, join}
 use Rattle.rules.specs.Rules.{hold, want, isEmpty, askWith, askWithout, ask, upgrade, handBack}
 use Rattle.facts.specs.Rooms.{RoomFacts}
+use Rattle.facts.specs.Moments.{QueuedFacts}
 use Rattle.kept.specs.Changed.{changed-same}
 use Rattle.kept.specs.Moment.{empty}
 use Rattle.kept.specs.Records.{modes-facts}
@@ -39,11 +38,6 @@ due-none r e = by-test (λ (m : ℕ). m ≡ 0) (eqb (r .held) 0) (r .wanted) 0 (
 due-wanted : (r : Room) → r .held ≡ 0 → due r ≡ r .wanted
 unfolding due
 due-wanted r e = simp (eq-eqb (r .held) 0 e)
-
--- what is lent is neither U nor W
-loan-weak : (a m : ℕ) → canLend a m ≡ true → (m ≢ U) × (m ≢ W)
-unfolding small
-loan-weak a m h = (λ e. absurd (false≢true (rw e at (lends-small a m h))), λ e. absurd (false≢true (rw e at (lends-small a m h))))
 
 module _ (n : ℕ) (rooms : ℕ → Room) (kept : List Wire) (w : Work) (a : Whole n rooms kept w) (idle : w .room .wanted ≡ 0) where
   facts : RoomFacts n (w .me) (w .room)
@@ -78,6 +72,9 @@ module _ (n : ℕ) (rooms : ℕ → Room) (kept : List Wire) (w : Work) (a : Who
     unfolding want
     want-due = ap due (changed-same rooms (w .me) (want w m .room)) ∙ due-wanted (withModes (w .room) (w .room .held) m) free
 
+    want-named : QueuedFacts n (now rooms (want w m)) (record { room = w .me; mode = m })
+    want-named = record { low = a .low; some = some; code = code; waits = want-due }
+
     -- "With the token: if the queue is empty and m agrees with owned, x holds m; else x wants m and joins the end of the queue."
     ask-with-kept : w .room .token ≡ true → Whole n rooms kept (askWith w m)
     unfolding askWith want
@@ -85,17 +82,17 @@ module _ (n : ℕ) (rooms : ℕ → Room) (kept : List Wire) (w : Work) (a : Who
         by-test (Whole n rooms kept) (isEmpty (w .queue) && agrees m (owned (w .room))) (hold w m) (join (want w m) (w .me) m)
         (λ e. hold-kept m code (held-waits (w .room) m some) (λ u. with) (λ u. with))
         (λ e. put-joined n rooms kept (want w m) (only (w .me)) 0 want-kept (w .me) m empty
-        (record { low = a .low; some = some; code = code; waits = want-due }) (λ c l. omega arith))
+        want-named (λ c l. omega arith))
 
     -- "Without it: if owned can lend m, x holds m and nothing is sent; else x wants m and sends REQUEST to toward."
     ask-without-kept : w .room .token ≡ false → Whole n rooms kept (askWithout w m)
     unfolding askWithout want
     ask-without-kept without =
         by-test (Whole n rooms kept) (canLend (owned (w .room)) m) (hold w m) (send (want w m) (w .room .toward) (msg.Request (w .me) m (eqb (owned (w .room)) 0)))
-        (λ e. let weak = loan-weak (owned (w .room)) m e in
+        (λ e. let weak = small-weak m (lends-small (owned (w .room)) m e) in
         hold-kept m code (held-waits (w .room) m some) (λ u. absurd (weak .0 u)) (λ u. absurd (weak .1 u)))
         (λ e. put-request n rooms kept (want w m) (w .room .toward) (facts .toward-low) (λ k. clash (facts .toward-token k) without)
-        (w .me) m (eqb (owned (w .room)) 0) (a .low) some code want-due
+        (w .me) m (eqb (owned (w .room)) 0) want-named
         (rw (changed-same rooms (w .me) (want w m .room)) without) want-kept)
 
     pub ask-kept : Whole n rooms kept (ask w m)

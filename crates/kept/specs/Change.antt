@@ -5,9 +5,8 @@ use mathlib.Core.Bool.{Bool, true, false}
 use mathlib.Core.List.{List}
 use Prim.Native.Nat.{ℕ, _+_, _≤_, _<_}
 use native.Mathlib.Omega.{arith}
-use lib.Dec.{ltb, eqb}
-use borrow.Author.Tests.{eqb-true, eq-eqb, not-true}
-use Rattle.base.specs.Tests.{and-left, and-right, _also_}
+use lib.Dec.{ltb}
+use borrow.Author.Tests.{eq-eqb}
 use Rattle.base.specs.Sums.{one, same?, sum, sum-differ}
 use Rattle.base.specs.Lists.{Mem, mem-total}
 use Rattle.room.specs.declared.Room.{Room}
@@ -15,9 +14,10 @@ use Rattle.table.specs.declared.Wire.{Wire}
 use Rattle.table.specs.declared.Queued.{Queued}
 use Rattle.table.specs.declared.Message.{Message}
 use Rattle.table.specs.declared.Message.the-variants as msg
-use Rattle.table.specs.Formed.{due, namesRightly, isNamedIn, tokens, names}
+use Rattle.table.specs.Formed.{due, isNamedIn, tokens, names}
 use Rattle.facts.specs.Rooms.{RoomFacts}
 use Rattle.facts.specs.Moments.{QueuedFacts}
+use Rattle.facts.specs.Messages.{Proper, proper, in-use}
 use Rattle.kept.specs.Moment.{Right, Moment, waiting}
 use Rattle.kept.specs.Hand.{nameOf, namesOf}
 
@@ -30,32 +30,28 @@ alike-refl : (r : Room) → Alike r r
 alike-refl r = record { waits = refl; token = λ e. e }
 
 module _ (old new : ℕ → Room) where
-  -- a message that names only rooms that are alike names rightly still
-  rightly-keep : (to : ℕ) (m : Message) → ((c : ℕ) → isNamedIn c to m ≡ true → Alike (old c) (new c))
-      → namesRightly old to m ≡ true → namesRightly new to m ≡ true
-  unfolding namesRightly isNamedIn
-  rightly-keep to msg.Nothing a h = refl
-  rightly-keep to (msg.Request o m idle) a h = eq-eqb _ _ (a o (eq-eqb o o refl) .waits ∙ eqb-true _ _ h)
-  rightly-keep to (msg.Grant m l) a h =
+  -- a place of the queue that names a room that is alike is as it should be still,
+  queued-keep : (n : ℕ) (q : Queued) → Alike (old (q .room)) (new (q .room)) → QueuedFacts n old q → QueuedFacts n new q
+  queued-keep n q a f = record { low = f .low; some = f .some; code = f .code; waits = a .waits ∙ f .waits }
+
+  -- and so is a message that names only such rooms
+  proper-keep : (n to : ℕ) (m : Message) → ((c : ℕ) → isNamedIn c to m ≡ true → Alike (old c) (new c)) → Proper n old to m → Proper n new to m
+  unfolding isNamedIn
+  proper-keep n to msg.Nothing a p = p
+  proper-keep n to (msg.Request o m idle) a p = queued-keep n (record { room = o; mode = m }) (a o (eq-eqb o o refl)) p
+  proper-keep n to (msg.Grant m l) a p =
       let same = a to (eq-eqb to to refl) in
-      eq-eqb (due (new to)) m (same .waits ∙ eqb-true _ _ (and-left _ _ h))
-      also rw (same .token (not-true (old to .token) (and-right (eqb (due (old to)) m) _ h))) refl
-  rightly-keep to (msg.Token m rest l) a h = eq-eqb _ _ (a to (eq-eqb to to refl) .waits ∙ eqb-true _ _ h)
-  rightly-keep to (msg.Reduce l m) a h = refl
+      record { some = p .some; weak = p .weak; waits = same .waits ∙ p .waits; without = same .token (p .without) }
+  proper-keep n to (msg.Token m rest l) a p =
+      record { some = p .some; code = p .code; rest-code = p .rest-code; waits = a to (eq-eqb to to refl) .waits ∙ p .waits }
+  proper-keep n to (msg.Reduce l m) a p = p
 
   right-keep : (n : ℕ) (w : Wire) → ((c : ℕ) → isNamedIn c (w .to) (w .message) ≡ true → Alike (old c) (new c))
       → Right n old w → Right n new w
   unfolding isNamedIn
   right-keep n w a r =
       record {
-        facts =
-            record {
-              from-low = r .facts .from-low;
-              to-low = r .facts .to-low;
-              apart = r .facts .apart;
-              fine = r .facts .fine;
-              rightly = rightly-keep (w .to) (w .message) a (r .facts .rightly);
-            };
+        facts = in-use n new w (r .facts .from-low) (r .facts .to-low) (r .facts .apart) (proper-keep n (w .to) (w .message) a (proper (r .facts)));
         unowned = λ o m idle e. a o (ap (λ (b : Message). isNamedIn o (w .to) b) e ∙ eq-eqb o o refl) .token (r .unowned o m idle e);
       }
 
@@ -87,7 +83,7 @@ module _ (n : ℕ) (old new : ℕ → Room) (queue : List Queued) (messages : Li
     change left rest there here token =
         record {
           room = λ c l. ⊎-elim (λ e. rw e f) (λ e. rw (others c e) (s .room c l)) (same? c me);
-          queued = λ q m. queued q m (s .queued q m);
+          queued = λ q m. queued-keep old new n q (alike-at (q .room) (λ e. queued-names q m e)) (s .queued q m);
           right = λ w m. right-keep old new n w (λ c e. alike-at c (λ k. message-names w m (rw k at e))) (s .right w m);
           token = omega (arith, s .token, token, counts);
           named = λ c l. ⊎-elim (λ e. rw e here) (λ e. elsewhere c l e) (same? c me);
@@ -98,15 +94,6 @@ module _ (n : ℕ) (old new : ℕ → Room) (queue : List Queued) (messages : Li
 
         elsewhere : (c : ℕ) → c < n → c ≢ me → names queue messages c + left c ≡ waiting (new c)
         elsewhere c l e = ap (λ (k : ℕ). names queue messages c + k) (there c l e) ∙ s .named c l ∙ ap waiting (sym (others c e))
-
-        queued : (q : Queued) → Mem q queue → QueuedFacts n old q → QueuedFacts n new q
-        queued q m k =
-            record {
-              low = k .low;
-              some = k .some;
-              code = k .code;
-              waits = alike-at (q .room) (λ e. queued-names q m e) .waits ∙ k .waits;
-            }
 
   -- it waits as before, and has the token exactly if it had it
   pub change-alike : due (new me) ≡ due (old me) → new me .token ≡ old me .token → Moment n new queue messages hand loose

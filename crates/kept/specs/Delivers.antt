@@ -1,32 +1,38 @@
 -- DELIVER keeps a moment whole: the message is off its wire, with what it names and the token that it carries in hand.
 use mathlib.Core.Path.{_≡_, refl, sym, _∙_, ap}
-use mathlib.Core.Logic.{_≢_, _⊎_, inl, inr, ⊎-elim}
-use mathlib.Core.Bool.{Bool, true, false, not, _&&_, _||_, false≢true}
+use mathlib.Core.Logic.{_≢_}
+use mathlib.Core.Bool.{Bool, true, false, not, _&&_}
 use mathlib.Core.List.{List, _++_}
 use Prim.Native.Nat.{ℕ, _≤_, _<_}
 use native.Mathlib.Omega.{arith}
-use lib.Dec.{ltb, leb, eqb}
+use lib.Dec.{ltb, eqb}
 use lib.ListN.{length, set, length-set}
-use borrow.Author.Tests.{ltb-true, leb-true, eqb-true, eqb-false, eq-eqb, ne-eqb, not-true}
-use Rattle.base.specs.Choice.{by-test, split}
-use Rattle.base.specs.Tests.{and-left, and-right, or-use, clash}
-use Rattle.base.specs.Sums.{one, sum-at}
-use Rattle.modes.specs.Codes.{IR, R, U, IW, W}
-use Rattle.modes.specs.Modes.{isStronger, canLend}
+use borrow.Author.Tests.{eqb-false, eq-eqb, ne-eqb, not-true}
+use Rattle.base.specs.Choice.{by-test}
+use Rattle.base.specs.Tests.{and-left, and-right, clash}
+use Rattle.base.specs.Sums.{one}
+use Rattle.modes.specs.Codes.{W}
+use Rattle.modes.specs.Modes.{canLend}
+use Rattle.modes.proofs.Laws.{small-code, small-weak}
 use Rattle.room.specs.declared.Room.{Room}
 use Rattle.room.specs.declared.Send.{Send}
 use Rattle.room.specs.declared.Send.the-variants as out
 use Rattle.room.specs.Limits.{roomLimit, nobody}
-use Rattle.room.specs.Record.{entryOf, entryAt, withModes, withToken, withDebt, setEntry}
+use Rattle.room.specs.Record.{entryOf, withModes, withToken, withDebt, setEntry}
 use Rattle.room.specs.Owned.{owned}
 use Rattle.room.specs.Rules.{lent, lentTo, leaving, granted, lifted, tokenedBy, tokened, reduced}
 use Rattle.table.specs.declared.Wire.{Wire}
 use Rattle.table.specs.declared.Message.{Message}
 use Rattle.table.specs.declared.Message.the-variants as msg
-use Rattle.table.specs.Formed.{due, isMode, messageFine, namesRightly, isToken, isNamedIn, tokens, names}
+use Rattle.table.specs.Formed.{due, isToken, isNamedIn, names}
 use Rattle.rules.specs.Work.{Work, withRoom, send, join, sendOut, change}
 use Rattle.rules.specs.Rules.{lend, settle, serve, takeRequest, receive}
 use Rattle.facts.specs.Rooms.{RoomFacts}
+use Rattle.facts.specs.Moments.{QueuedFacts}
+use Rattle.facts.specs.Messages.{GrantFacts, TokenFacts, proper}
+use Rattle.facts.specs.Tokens.{gone-tokenless}
+use Rattle.facts.specs.Wires.{wire}
+use Rattle.facts.specs.Cases.{reduced-either}
 use Rattle.kept.specs.Changed.{changed-same}
 use Rattle.kept.specs.Moment.{Right, empty}
 use Rattle.kept.specs.Records.{modes-facts, counter-facts, free-facts, owing-facts, gained-facts, entry-set-facts}
@@ -36,19 +42,6 @@ use Rattle.kept.specs.Settle.{settle-kept}
 use Rattle.kept.specs.Loans.{lend-kept}
 use Rattle.kept.specs.Turns.{held-waits, waits-one}
 use Rattle.kept.specs.Serve.{serve-kept, settle-or-serve-kept}
-
--- the modes of a GRANT: some mode, and neither U nor W
-pub grant-modes : (m : ℕ) → (eqb m IR || eqb m R || eqb m IW) ≡ true → (1 ≤ m) × (m ≤ W) × (m ≢ U) × (m ≢ W)
-grant-modes m h = go (or-use (eqb m IR || eqb m R) (eqb m IW) h)
-  where
-    is : (k : ℕ) → m ≡ k → (1 ≤ k) × (k ≤ W) × (k ≢ U) × (k ≢ W) → (1 ≤ m) × (m ≤ W) × (m ≢ U) × (m ≢ W)
-    is k e p = rw e p
-
-    go : ((eqb m IR || eqb m R) ≡ true) ⊎ (eqb m IW ≡ true) → (1 ≤ m) × (m ≤ W) × (m ≢ U) × (m ≢ W)
-    go (inl p) =
-        ⊎-elim (λ e. is IR (eqb-true m IR e) (omega arith, omega arith, λ k. omega arith, λ k. omega arith))
-        (λ e. is R (eqb-true m R e) (omega arith, omega arith, λ k. omega arith, λ k. omega arith)) (or-use (eqb m IR) (eqb m R) p)
-    go (inr e) = is IW (eqb-true m IW e) (omega arith, omega arith, λ k. omega arith, λ k. omega arith)
 
 -- what is sent leaves the record as it is
 sent-room : (w : Work) (s : Send) → sendOut w s .room ≡ w .room
@@ -75,26 +68,26 @@ module _ (n : ℕ) (rooms : ℕ → Room) (kept : List Wire) (w : Work) (from : 
   ended : (c : ℕ) → c < n → c ≢ w .me → 0 ≡ only (w .me) c
   ended c l e = sym (ap one (ne-eqb (w .me) c (λ k. e (sym k))))
 
-  module _ (o m : ℕ) (idle : Bool) (low : o < n) (some : 1 ≤ m) (code : m ≤ W) (waits : due (now rooms w o) ≡ m)
+  module _ (o m : ℕ) (idle : Bool) (named : QueuedFacts n (now rooms w) (record { room = o; mode = m }))
       (without : now rooms w o .token ≡ false) (a : At n rooms kept w (only o) 0) where
     -- "REQUEST at the room with the token: it joins the end of the queue, then serve."
     joined-kept : w .room .token ≡ true → Whole n rooms kept (serve (join w o m))
     unfolding join
     joined-kept with =
         serve-kept n rooms kept (join w o m)
-        (put-joined n rooms kept w (only o) 0 a o m empty (record { low = low; some = some; code = code; waits = waits }) (λ c l. omega arith)) with
+        (put-joined n rooms kept w (only o) 0 a o m empty named (λ c l. omega arith)) with
 
     -- "if the origin owned nothing, isn't b, and owned of b can lend the mode, b lends, then settles"
     lent-kept : w .room .token ≡ false → o ≢ w .me → canLend (owned (w .room)) m ≡ true → Whole n rooms kept (settle (lend w o m))
     unfolding lend send lent lentTo
     lent-kept none other can =
-        settle-kept n rooms kept (lend w o m) (lend-kept n rooms kept w o m low other can waits without a) none
+        settle-kept n rooms kept (lend w o m) (lend-kept n rooms kept w o m (named .low) other can (named .waits) without a) none
 
     -- "else b sends it on, unchanged, to toward"
     on-kept : w .room .token ≡ false → Whole n rooms kept (send w (w .room .toward) (msg.Request o m idle))
     on-kept none =
         let facts = own-room n rooms kept w (only o) 0 a in
-        put-request n rooms kept w (w .room .toward) (facts .toward-low) (λ k. clash (facts .toward-token k) none) o m idle low some code waits without a
+        put-request n rooms kept w (w .room .toward) (facts .toward-low) (λ k. clash (facts .toward-token k) none) o m idle named without a
 
     request-kept : Whole n rooms kept (takeRequest w o m idle)
     unfolding takeRequest
@@ -106,42 +99,41 @@ module _ (n : ℕ) (rooms : ℕ → Room) (kept : List Wire) (w : Work) (from : 
 
   module _ (from-low : from < n) (apart : from ≢ w .me) where
     -- "GRANT: .. Then lender a, the new link number, credit and held the mode, wanted none."
-    grant-kept : (m l : ℕ) → (eqb m IR || eqb m R || eqb m IW) ≡ true → due (now rooms w (w .me)) ≡ m → now rooms w (w .me) .token ≡ false
-        → At n rooms kept w (only (w .me)) 0 → Whole n rooms kept (receive w from (msg.Grant m l))
+    grant-kept : (m l : ℕ) → GrantFacts (now rooms w (w .me)) m → At n rooms kept w (only (w .me)) 0
+        → Whole n rooms kept (receive w from (msg.Grant m l))
     unfolding receive granted
-    grant-kept m l fine waits none a =
+    grant-kept m l grant a =
         put-leaving n rooms kept (withRoom w lending) (w .room) from (facts .lender-low) (facts .lender-other)
         (set-unnamed n rooms kept w (only (w .me)) 0 a lending
         (owing-facts n (w .me) (withModes (w .room) m 0)
-        (modes-facts n (w .me) (w .room) facts m 0 (modes .1) (omega arith) (λ e. absurd (modes .2 e)) (λ e. absurd (modes .3 e)) (λ p z. absurd (z refl)))
-        from m l (a .small) from-low apart (modes .0) (modes .1) (ap (λ (r : Room). r .token) (sym own) ∙ none))
-        (a .long) (unnamed m 0 (modes .0) waits a) empty 0 ended (sym (ap (λ (d : ℕ). one (ltb 0 d)) (held-waits (withDebt (w .room) from m l) m (modes .0)))) refl)
+        (modes-facts n (w .me) (w .room) facts m 0 code (omega arith) (λ e. absurd (small-weak m (grant .weak) .0 e))
+        (λ e. absurd (small-weak m (grant .weak) .1 e)) (λ p z. absurd (z refl)))
+        from m l (a .small) from-low apart (grant .some) code (ap (λ (r : Room). r .token) (sym own) ∙ grant .without))
+        (a .long) (unnamed m 0 (grant .some) (grant .waits) a) empty 0 ended
+        (sym (ap (λ (d : ℕ). one (ltb 0 d)) (held-waits (withDebt (w .room) from m l) m (grant .some)))) refl)
       where
         facts : RoomFacts n (w .me) (w .room)
         facts = own-room n rooms kept w (only (w .me)) 0 a
 
-        modes : (1 ≤ m) × (m ≤ W) × (m ≢ U) × (m ≢ W)
-        modes = grant-modes m fine
+        code : m ≤ W
+        code = omega (arith, small-code m (grant .weak))
 
         lending : Room
         lending = withDebt (withModes (w .room) m 0) from m l
 
     -- while the token is in hand no room has it
     tokenless : At n rooms kept w (only (w .me)) 1 → w .room .token ≡ false
-    unfolding tokens
     tokenless a =
-        split (w .room .token)
-        (λ e. absurd (omega (arith, a .moment .token, sum-at n (λ c. one (now rooms w c .token)) (w .me) (a .low), ap (λ (r : Room). one (r .token)) own, ap one e)))
-        (λ e. e)
+        ap (λ (r : Room). r .token) (sym own) ∙ gone-tokenless n (now rooms w) (kept ++ w .sent) (omega (arith, a .moment .token)) (w .me) (a .low)
 
     -- "TOKEN: .. then no lender, credit none, toward itself, held the mode, wanted none; its entry for a is the remaining mode .. then serve"
-    pub arrived-kept : (m rest l : ℕ) → 1 ≤ m → m ≤ W → rest ≤ W → due (now rooms w (w .me)) ≡ m
-        → At n rooms kept w (only (w .me)) 1 → Whole n rooms kept (change w (tokened (w .room) (w .me) from m rest l))
+    pub arrived-kept : (m rest l : ℕ) → TokenFacts (now rooms w (w .me)) m rest → At n rooms kept w (only (w .me)) 1
+        → Whole n rooms kept (change w (tokened (w .room) (w .me) from m rest l))
     unfolding tokened tokenedBy
-    arrived-kept m rest l some code rest-code waits a =
+    arrived-kept m rest l arrives a =
         put-leaving n rooms kept (withRoom w rooted) (w .room) from (facts .lender-low) (facts .lender-other)
-        (set-unnamed n rooms kept w (only (w .me)) 1 a rooted rooted-facts long (unnamed m 1 some waits a) empty 0 ended
-        (sym (ap (λ (d : ℕ). one (ltb 0 d)) (held-waits rooted m some)))
+        (set-unnamed n rooms kept w (only (w .me)) 1 a rooted rooted-facts long (unnamed m 1 (arrives .some) (arrives .waits) a) empty 0 ended
+        (sym (ap (λ (d : ℕ). one (ltb 0 d)) (held-waits rooted m (arrives .some))))
         (rw (tokenless a) refl))
       where
         facts : RoomFacts n (w .me) (w .room)
@@ -155,7 +147,7 @@ module _ (n : ℕ) (rooms : ℕ → Room) (kept : List Wire) (w : Work) (from : 
         entered = setEntry (w .room) from (entryOf rest l)
 
         entered-facts : RoomFacts n (w .me) entered
-        entered-facts = entry-set-facts n (w .me) (w .room) facts from rest l (a .small) (a .long) from-low apart rest-code
+        entered-facts = entry-set-facts n (w .me) (w .room) facts from rest l (a .small) (a .long) from-low apart (arrives .rest-code)
 
         with-token : RoomFacts n (w .me) (withToken (withDebt entered nobody 0 0) true (w .me))
         with-token =
@@ -164,51 +156,43 @@ module _ (n : ℕ) (rooms : ℕ → Room) (kept : List Wire) (w : Work) (from : 
         rooted-facts : RoomFacts n (w .me) rooted
         rooted-facts =
             counter-facts n (w .me) (withModes (withToken (withDebt entered nobody 0 0) true (w .me)) m 0)
-            (modes-facts n (w .me) (withToken (withDebt entered nobody 0 0) true (w .me)) with-token m 0 code (omega arith) (λ e. refl) (λ e. refl) (λ p z. absurd (z refl)))
+            (modes-facts n (w .me) (withToken (withDebt entered nobody 0 0) true (w .me)) with-token m 0 (arrives .code) (omega arith) (λ e. refl) (λ e. refl) (λ p z. absurd (z refl)))
             (lifted (w .room .counter) l)
 
         long : length (set (w .room .entries) from (entryOf rest l)) ≡ roomLimit
         long = length-set (w .room .entries) from (entryOf rest l) ∙ a .long
 
-    token-kept : (m rest l : ℕ) → 1 ≤ m → m ≤ W → rest ≤ W → due (now rooms w (w .me)) ≡ m
-        → At n rooms kept w (only (w .me)) 1 → Whole n rooms kept (receive w from (msg.Token m rest l))
+    token-kept : (m rest l : ℕ) → TokenFacts (now rooms w (w .me)) m rest → At n rooms kept w (only (w .me)) 1
+        → Whole n rooms kept (receive w from (msg.Token m rest l))
     unfolding receive tokened tokenedBy
-    token-kept m rest l some code rest-code waits a =
-        serve-kept n rooms kept (change w (tokened (w .room) (w .me) from m rest l)) (arrived-kept m rest l some code rest-code waits a)
+    token-kept m rest l arrives a =
+        serve-kept n rooms kept (change w (tokened (w .room) (w .me) from m rest l)) (arrived-kept m rest l arrives a)
         (ap (λ (r : Room). r .token) (sent-room (withRoom w (tokenedBy (w .room) (w .me) from m rest l)) (leaving (w .room) from)))
 
     -- "REDUCE: if b's entry for a has this link number and a stronger mode than the new one, it takes the new mode; else the message is dropped."
     pub reduced-kept : (l m : ℕ) → m ≤ W → Whole n rooms kept w → Whole n rooms kept (withRoom w (reduced (w .room) from l m))
-    unfolding reduced due
+    unfolding due
     reduced-kept l m code a =
-        by-test (λ (r : Room). Whole n rooms kept (withRoom w r)) (eqb (entryAt (w .room) from .link) l && isStronger (entryAt (w .room) from .mode) m)
-        (setEntry (w .room) from (entryOf m l)) (w .room)
-        (λ e. set-alike n rooms kept w empty 0 a (setEntry (w .room) from (entryOf m l))
+        reduced-either (w .room) from l m (λ (r : Room). Whole n rooms kept (withRoom w r))
+        (set-alike n rooms kept w empty 0 a (setEntry (w .room) from (entryOf m l))
         (entry-set-facts n (w .me) (w .room) (own-room n rooms kept w empty 0 a) from m l (a .small) (a .long) from-low apart code)
         (length-set (w .room .entries) from (entryOf m l) ∙ a .long) refl refl)
-        (λ e. a)
+        a
 
     reduce-kept : (l m : ℕ) → m ≤ W → Whole n rooms kept w → Whole n rooms kept (receive w from (msg.Reduce l m))
     unfolding receive
     reduce-kept l m code a = settle-or-serve-kept n rooms kept (withRoom w (reduced (w .room) from l m)) (reduced-kept l m code a)
 
   -- whatever the message is
-  pub receive-kept : (m : Message) → Right n (now rooms w) (record { «from» = from; to = w .me; message = m })
+  pub receive-kept : (m : Message) → Right n (now rooms w) (wire from (w .me) m)
       → At n rooms kept w (λ c. one (isNamedIn c (w .me) m)) (one (isToken m)) → Whole n rooms kept (receive w from m)
-  unfolding receive isNamedIn isToken messageFine namesRightly
-  receive-kept msg.Nothing r a = absurd (false≢true (r .facts .fine))
+  unfolding receive isNamedIn isToken
+  receive-kept msg.Nothing r a = absurd (proper (r .facts))
   receive-kept (msg.Request o m idle) r a =
-      request-kept o m idle (ltb-true o n (and-left _ _ (r .facts .fine)))
-      (leb-true _ _ (and-left _ _ (and-right (ltb o n) (isMode m) (r .facts .fine))))
-      (leb-true _ _ (and-right (leb IR m) _ (and-right (ltb o n) (isMode m) (r .facts .fine))))
-      (eqb-true _ _ (r .facts .rightly)) (r .unowned o m idle refl) a
+      request-kept o m idle (proper (r .facts)) (r .unowned o m idle refl) a
   receive-kept (msg.Grant m l) r a =
-      grant-kept (r .facts .from-low) (r .facts .apart) m l (r .facts .fine) (eqb-true _ _ (and-left _ _ (r .facts .rightly)))
-      (not-true _ (and-right (eqb (due (now rooms w (w .me))) m) _ (r .facts .rightly))) a
+      grant-kept (r .facts .from-low) (r .facts .apart) m l (proper (r .facts)) a
   receive-kept (msg.Token m rest l) r a =
-      token-kept (r .facts .from-low) (r .facts .apart) m rest l
-      (leb-true _ _ (and-left _ _ (and-left (isMode m) _ (r .facts .fine))))
-      (leb-true _ _ (and-right (leb IR m) _ (and-left (isMode m) _ (r .facts .fine))))
-      (leb-true _ _ (and-right (isMode m) _ (r .facts .fine)))
-      (eqb-true _ _ (r .facts .rightly)) a
-  receive-kept (msg.Reduce l m) r a = reduce-kept (r .facts .from-low) (r .facts .apart) l m (leb-true _ _ (r .facts .fine)) a
+      token-kept (r .facts .from-low) (r .facts .apart) m rest l (proper (r .facts)) a
+  receive-kept (msg.Reduce l m) r a =
+      reduce-kept (r .facts .from-low) (r .facts .apart) l m (proper (r .facts)) a

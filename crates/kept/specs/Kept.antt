@@ -3,11 +3,11 @@
 use mathlib.Core.Path.{_≡_, refl, subst⁻¹}
 use mathlib.Core.Bool.{true}
 use mathlib.Core.List.{List, [], _∷_, _++_}
-use Prim.Native.Nat.{ℕ, _<_}
+use Prim.Native.Nat.{ℕ}
 use native.Mathlib.Omega.{arith}
 use lib.Dec.{ltb, eqb}
 use lib.ListN.{length}
-use borrow.Author.Tests.{eqb-true, eqb-false, ne-eqb}
+use borrow.Author.Tests.{eqb-true, eqb-false}
 use Rattle.base.specs.Choice.{by-test, split}
 use Rattle.base.specs.Lists.{remove}
 use Rattle.table.specs.declared.Table.{Table}
@@ -22,7 +22,7 @@ use Rattle.table.specs.Formed.{wellFormed}
 use Rattle.rules.specs.declared.Event.{Event}
 use Rattle.rules.specs.Work.{Work, workAt}
 use Rattle.rules.specs.Rules.{ask, upgrade, handBack, receive}
-use Rattle.rules.specs.Events.{isAsk, isUpgrade, isHandBack}
+use Rattle.rules.specs.Events.{ASK, UPGRADE, HANDBACK, isAsk, isUpgrade, isHandBack}
 use Rattle.rules.specs.Refusals.{refusal}
 use Rattle.rules.specs.Step.{outcome, delivered, made, stepOf, runs}
 use Rattle.facts.specs.Shapes.{Shaped}
@@ -33,7 +33,7 @@ use Rattle.kept.specs.Asks.{ask-kept, upgrade-kept, hand-back-kept}
 use Rattle.kept.specs.Delivers.{receive-kept}
 use Rattle.kept.specs.Start.{start, take-oldest}
 use Rattle.kept.specs.After.{Lawful, outcome-lawful}
-use Rattle.facts.specs.Accepted.{Accepted, accepted}
+use Rattle.facts.specs.Accepted.{Accepted, accepted, kind-idle}
 
 -- an answer that, if it is 0, has a lawful table
 abbrev Fine : Answer → Type 0
@@ -53,21 +53,17 @@ module _ (t : Table) (s : Shaped t) (f : WellFormed t) (u : NoOwnRequest (roomAt
   made-fine e a =
       by-test Fine (isAsk e) _ _
       (λ k. outcome-lawful t s f (messagesOf t) (ask (workAt t (e .room)) (e .mode))
-      (ask-kept (t .n) (roomAt t) (messagesOf t) (workAt t (e .room)) begin (idle 0 (eqb-true _ _ k) (omega arith)) (a .free k) (e .mode) (a .some k) (a .code k))) λ k.
+      (ask-kept (t .n) (roomAt t) (messagesOf t) (workAt t (e .room)) begin (kind-idle t e a ASK (eqb-true _ _ k) (omega arith)) (a .free k) (e .mode) (a .some k) (a .code k))) λ k.
       by-test Fine (isUpgrade e) _ _
       (λ k. outcome-lawful t s f (messagesOf t) (upgrade (workAt t (e .room)))
-      (upgrade-kept (t .n) (roomAt t) (messagesOf t) (workAt t (e .room)) begin (idle 1 (eqb-true _ _ k) (omega arith)) (a .holds k))) λ k.
+      (upgrade-kept (t .n) (roomAt t) (messagesOf t) (workAt t (e .room)) begin (kind-idle t e a UPGRADE (eqb-true _ _ k) (omega arith)) (a .holds k))) λ k.
       by-test Fine (isHandBack e) _ _
       (λ k. outcome-lawful t s f (messagesOf t) (handBack (workAt t (e .room)))
-      (hand-back-kept (t .n) (roomAt t) (messagesOf t) (workAt t (e .room)) begin (idle 2 (eqb-true _ _ k) (omega arith)))) λ k.
+      (hand-back-kept (t .n) (roomAt t) (messagesOf t) (workAt t (e .room)) begin (kind-idle t e a HANDBACK (eqb-true _ _ k) (omega arith)))) λ k.
       delivered-fine (e .room) (e .other) (oldestOf t (e .room) (e .other)) refl
     where
       begin : Whole (t .n) (roomAt t) (messagesOf t) (workAt t (e .room))
       begin = start t s f u (e .room) (a .low)
-
-      -- an event of another kind than DELIVER is of a room that does not wait
-      idle : (k : ℕ) → e .kind ≡ k → k < 3 → roomAt t (e .room) .wanted ≡ 0
-      idle k q l = a .idle (ne-eqb (e .kind) 3 (λ z. omega arith))
 
 pub kept : (t : Table) (e : Event) → Shaped t → wellFormed t ≡ true → NoOwnRequest (roomAt t) (messagesOf t) → stepOf t e .«number» ≡ 0
     → (wellFormed (stepOf t e .table) ≡ true) × NoOwnRequest (roomAt (stepOf t e .table)) (messagesOf (stepOf t e .table)) × Shaped (stepOf t e .table)

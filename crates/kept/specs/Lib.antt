@@ -2,7 +2,6 @@ pub mod Changed
 pub mod Moment
 pub mod Hand
 pub mod Change
-pub mod Owns
 pub mod Records
 pub mod Acts
 pub mod Sends

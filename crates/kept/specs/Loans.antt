@@ -16,14 +16,14 @@ use Rattle.room.specs.declared.Room.{Room}
 use Rattle.room.specs.Limits.{roomLimit}
 use Rattle.room.specs.Record.{noEntry, entryOf, withDebt, withCounter, setEntry}
 use Rattle.room.specs.Owned.{owned}
+use Rattle.room.proofs.Owning.{owned-held}
 use Rattle.room.specs.Rules.{nextLink, isWorn, lentTo, lent, left, remaining, passedTo, passed}
 use Rattle.table.specs.declared.Wire.{Wire}
 use Rattle.table.specs.Formed.{due}
 use Rattle.rules.specs.Work.{Work, withRoom, withWorn}
 use Rattle.rules.specs.Rules.{lend, pass}
-use Rattle.facts.specs.Rooms.{RoomFacts}
+use Rattle.facts.specs.Rooms.{RoomFacts, owned-code}
 use Rattle.kept.specs.Changed.{changed, changed-elsewhere}
-use Rattle.kept.specs.Owns.{owned-code, owned-held}
 use Rattle.kept.specs.Records.{counter-facts, lost-facts, owing-facts, entry-set-facts}
 use Rattle.kept.specs.Acts.{At, Whole, now, only, own-room, set-alike, set-passing}
 use Rattle.kept.specs.Sends.{put-grant, put-token}
@@ -44,8 +44,12 @@ module _ (n : ℕ) (rooms : ℕ → Room) (kept : List Wire) (w : Work) (y m : �
   unfolding lend lent lentTo due
   lend-kept can waits without a =
       put-grant n rooms kept (withWorn (withRoom w after) (isWorn (w .room .counter))) y low other m (nextLink (w .room .counter))
-      (lends-some (owned (w .room)) m can) (lends-small (owned (w .room)) m can) (ap due (there after) ∙ waits)
-      (ap (λ (r : Room). r .token) (there after) ∙ without)
+      (record {
+        some = lends-some (owned (w .room)) m can;
+        weak = lends-small (owned (w .room)) m can;
+        waits = ap due (there after) ∙ waits;
+        without = ap (λ (r : Room). r .token) (there after) ∙ without;
+      })
       (worn-too n rooms kept (withRoom w after) (isWorn (w .room .counter)) (only y) 0
       (set-alike n rooms kept w (only y) 0 a after facts long refl refl))
     where
@@ -68,7 +72,7 @@ module _ (n : ℕ) (rooms : ℕ → Room) (kept : List Wire) (w : Work) (y m : �
   unfolding pass passed passedTo left remaining entryOf due
   pass-kept some code agree cannot with waits a =
       put-token n rooms kept (withWorn (withRoom w after) (isWorn (w .room .counter))) y low other m (remaining (w .room) y) (nextLink (w .room .counter))
-      some code rest-code (ap due (there after) ∙ waits)
+      (record { some = some; code = code; rest-code = rest-code; waits = ap due (there after) ∙ waits })
       (worn-too n rooms kept (withRoom w after) (isWorn (w .room .counter)) (only y) 1 given)
     where
       after : Room

@@ -1,73 +1,61 @@
 -- Each kind of message, sent by the room that acts with what it has in hand.
 use mathlib.Core.Path.{_≡_, refl}
 use mathlib.Core.Logic.{_≢_}
-use mathlib.Core.Bool.{Bool, true, false, _||_}
+use mathlib.Core.Bool.{Bool, false}
 use mathlib.Core.List.{List}
 use Prim.Native.Nat.{ℕ, _≤_, _<_}
 use native.Mathlib.Omega.{arith}
-use lib.Dec.{eqb}
-use borrow.Author.Tests.{lt-ltb, le-leb, eq-eqb, ne-eqb, eqb-false}
-use Rattle.base.specs.Tests.{_also_}
-use Rattle.base.specs.Choice.{by-test}
-use Rattle.modes.specs.Codes.{none, IR, R, IW, W}
-use Rattle.modes.specs.Under.{small}
+use Rattle.modes.specs.Codes.{W}
 use Rattle.room.specs.declared.Room.{Room}
 use Rattle.room.specs.declared.Send.{Send}
-use Rattle.room.specs.declared.Send.the-variants as out
 use Rattle.room.specs.Limits.{nobody}
 use Rattle.room.specs.Rules.{leaving}
 use Rattle.table.specs.declared.Wire.{Wire}
 use Rattle.table.specs.declared.Message.the-variants as msg
-use Rattle.table.specs.Formed.{due, messageFine, namesRightly, isToken, isNamedIn}
+use Rattle.table.specs.Formed.{isToken, isNamedIn}
 use Rattle.rules.specs.Work.{Work, send, sendOut}
+use Rattle.facts.specs.Moments.{QueuedFacts}
+use Rattle.facts.specs.Messages.{GrantFacts, TokenFacts}
+use Rattle.facts.specs.Cases.{leaving-send}
 use Rattle.kept.specs.Moment.{empty}
 use Rattle.kept.specs.Acts.{At, Whole, now, only, put-sent}
 
 module _ (n : ℕ) (rooms : ℕ → Room) (kept : List Wire) (w : Work) (y : ℕ) (low : y < n) (other : y ≢ w .me) where
   -- a REDUCE names nobody
   pub put-reduce : (l m : ℕ) → m ≤ W → Whole n rooms kept w → Whole n rooms kept (send w y (msg.Reduce l m))
-  unfolding messageFine namesRightly isNamedIn isToken
+  unfolding isNamedIn isToken
   put-reduce l m code a =
-      put-sent n rooms kept w empty 0 a y (msg.Reduce l m) empty 0 low other (le-leb m W code) refl (λ o k idle e. absurd (differ o k idle e))
-      (λ c b. refl) refl
+      put-sent n rooms kept w empty 0 a y (msg.Reduce l m) empty 0 low other code (λ o k idle e. absurd (differ o k idle e)) (λ c b. refl) refl
     where
       differ : (o k : ℕ) (idle : Bool) → msg.Reduce l m ≡ msg.Request o k idle → ⊥
       differ o k idle e = let z : _≡_ {A = ℕ} 0 1 = cc in omega arith
 
-  -- a GRANT of IR, R or IW names its receiver, which has no token
-  pub put-grant : (m l : ℕ) → 1 ≤ m → small m ≡ true → due (now rooms w y) ≡ m → now rooms w y .token ≡ false
-      → At n rooms kept w (only y) 0 → Whole n rooms kept (send w y (msg.Grant m l))
-  unfolding messageFine namesRightly isNamedIn isToken small
-  put-grant m l some s waits without a =
-      put-sent n rooms kept w (only y) 0 a y (msg.Grant m l) empty 0 low other fine
-      (eq-eqb _ _ waits also rw without refl) (λ o k idle e. absurd (differ o k idle e)) (λ c b. omega arith) refl
+  -- a GRANT names its receiver
+  pub put-grant : (m l : ℕ) → GrantFacts (now rooms w y) m → At n rooms kept w (only y) 0 → Whole n rooms kept (send w y (msg.Grant m l))
+  unfolding isNamedIn isToken
+  put-grant m l facts a =
+      put-sent n rooms kept w (only y) 0 a y (msg.Grant m l) empty 0 low other facts (λ o k idle e. absurd (differ o k idle e)) (λ c b. omega arith) refl
     where
-      fine : (eqb m IR || eqb m R || eqb m IW) ≡ true
-      fine = rw (ne-eqb m none (λ e. omega arith)) at s
-
       differ : (o k : ℕ) (idle : Bool) → msg.Grant m l ≡ msg.Request o k idle → ⊥
       differ o k idle e = let z : _≡_ {A = ℕ} 0 1 = cc in omega arith
 
   -- a TOKEN names its receiver
-  pub put-token : (m rest l : ℕ) → 1 ≤ m → m ≤ W → rest ≤ W → due (now rooms w y) ≡ m
-      → At n rooms kept w (only y) 1 → Whole n rooms kept (send w y (msg.Token m rest l))
-  unfolding messageFine namesRightly isNamedIn isToken
-  put-token m rest l some code rest-code waits a =
-      put-sent n rooms kept w (only y) 1 a y (msg.Token m rest l) empty 0 low other
-      (le-leb 1 m some also le-leb m W code also le-leb rest W rest-code)
-      (eq-eqb _ _ waits) (λ o k idle e. absurd (differ o k idle e)) (λ c b. omega arith) refl
+  pub put-token : (m rest l : ℕ) → TokenFacts (now rooms w y) m rest → At n rooms kept w (only y) 1
+      → Whole n rooms kept (send w y (msg.Token m rest l))
+  unfolding isNamedIn isToken
+  put-token m rest l facts a =
+      put-sent n rooms kept w (only y) 1 a y (msg.Token m rest l) empty 0 low other facts (λ o k idle e. absurd (differ o k idle e)) (λ c b. omega arith) refl
     where
       differ : (o k : ℕ) (idle : Bool) → msg.Token m rest l ≡ msg.Request o k idle → ⊥
       differ o k idle e = let z : _≡_ {A = ℕ} 0 1 = cc in omega arith
 
   -- a REQUEST names its origin, which has no token
-  pub put-request : (o m : ℕ) (idle : Bool) → o < n → 1 ≤ m → m ≤ W → due (now rooms w o) ≡ m → now rooms w o .token ≡ false
+  pub put-request : (o m : ℕ) (idle : Bool) → QueuedFacts n (now rooms w) (record { room = o; mode = m }) → now rooms w o .token ≡ false
       → At n rooms kept w (only o) 0 → Whole n rooms kept (send w y (msg.Request o m idle))
-  unfolding messageFine namesRightly isNamedIn isToken
-  put-request o m idle o-low some code waits without a =
-      put-sent n rooms kept w (only o) 0 a y (msg.Request o m idle) empty 0 low other
-      (lt-ltb o n o-low also (le-leb 1 m some also le-leb m W code))
-      (eq-eqb _ _ waits) (λ p k i e. rw (← origin p k i e) without) (λ c b. omega arith) refl
+  unfolding isNamedIn isToken
+  put-request o m idle facts without a =
+      put-sent n rooms kept w (only o) 0 a y (msg.Request o m idle) empty 0 low other facts (λ p k i e. rw (← origin p k i e) without) (λ c b. omega arith)
+      refl
     where
       origin : (p k : ℕ) (i : Bool) → msg.Request o m idle ≡ msg.Request p k i → o ≡ p
       origin p k i e = cc
@@ -75,15 +63,7 @@ module _ (n : ℕ) (rooms : ℕ → Room) (kept : List Wire) (w : Work) (y : ℕ
 -- "if b has a lender other than a, it sends that lender REDUCE to none under the old link"
 pub put-leaving : (n : ℕ) (rooms : ℕ → Room) (kept : List Wire) (w : Work) (r : Room) (a : ℕ)
     → (r .lender ≢ nobody → r .lender < n) → r .lender ≢ w .me → Whole n rooms kept w → Whole n rooms kept (sendOut w (leaving r a))
-unfolding leaving sendOut
+unfolding sendOut
 put-leaving n rooms kept w r a low other k =
-    by-test (λ (s : Send). Whole n rooms kept (sendOut w s)) (eqb (r .lender) nobody || eqb (r .lender) a) out.Nothing (out.Reduce (r .lender) (r .link) 0)
-    (λ e. k)
-    (λ e. put-reduce n rooms kept w (r .lender) (low (eqb-false _ _ (first e))) other (r .link) 0 (omega arith) k)
-  where
-    first : (eqb (r .lender) nobody || eqb (r .lender) a) ≡ false → eqb (r .lender) nobody ≡ false
-    first e = or-none (eqb (r .lender) nobody) (eqb (r .lender) a) e
-      where
-        or-none : (p q : Bool) → (p || q) ≡ false → p ≡ false
-        or-none true q h = h
-        or-none false q h = refl
+    leaving-send r a (λ (s : Send). Whole n rooms kept (sendOut w s)) (λ e. k)
+    (λ e. put-reduce n rooms kept w (r .lender) (low e) other (r .link) 0 (omega arith) k)

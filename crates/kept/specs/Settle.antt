@@ -21,9 +21,8 @@ use Rattle.table.specs.declared.Wire.{Wire}
 use Rattle.table.specs.Formed.{due}
 use Rattle.rules.specs.Work.{Work, withRoom, change, sendOut}
 use Rattle.rules.specs.Rules.{settle}
-use Rattle.facts.specs.Rooms.{RoomFacts}
+use Rattle.facts.specs.Rooms.{RoomFacts, owned-code}
 use Rattle.kept.specs.Moment.{empty}
-use Rattle.kept.specs.Owns.{owned-code}
 use Rattle.kept.specs.Records.{free-facts, owing-facts}
 use Rattle.kept.specs.Acts.{Whole, own-room, set-alike}
 use Rattle.kept.specs.Sends.{put-reduce}

@@ -3,38 +3,29 @@ use mathlib.Core.Path.{_≡_, refl, sym, _∙_, ap}
 use mathlib.Core.Logic.{_≢_}
 use mathlib.Core.Bool.{true, false}
 use mathlib.Core.List.{List, _∷_, _++_, List·Memᴰ·head}
-use Prim.Native.Nat.{ℕ, _≤_, _<_}
+use Prim.Native.Nat.{ℕ, _≤_}
 use native.Mathlib.Omega.{arith}
 use lib.Dec.{ltb}
 use borrow.Author.Tests.{eq-eqb, ne-eqb, lt-ltb}
-use Rattle.base.specs.Choice.{split}
-use Rattle.base.specs.Sums.{one, sum-two}
+use Rattle.base.specs.Sums.{one}
 use Rattle.modes.specs.Modes.{agrees, canLend}
 use Rattle.room.specs.declared.Room.{Room}
 use Rattle.room.specs.Record.{withModes}
 use Rattle.room.specs.Owned.{owned}
 use Rattle.table.specs.declared.Wire.{Wire}
 use Rattle.table.specs.declared.Queued.{Queued}
-use Rattle.table.specs.Formed.{due, tokens, names}
+use Rattle.table.specs.Formed.{due, names}
 use Rattle.rules.specs.Work.{Work, withQueue, send}
 use Rattle.rules.specs.Rules.{hold, lend, pass}
 use Rattle.facts.specs.Rooms.{RoomFacts}
 use Rattle.facts.specs.Moments.{QueuedFacts}
+use Rattle.facts.specs.Tokens.{holder-alone}
 use Rattle.kept.specs.Changed.{changed-same}
-use Rattle.kept.specs.Moment.{Moment, empty, waiting}
+use Rattle.kept.specs.Moment.{empty, waiting}
 use Rattle.kept.specs.Hand.{nameOf, take-queued}
 use Rattle.kept.specs.Records.{modes-facts}
 use Rattle.kept.specs.Acts.{At, Whole, now, own-room, own-names, set-unnamed}
 use Rattle.kept.specs.Loans.{lend-kept, pass-kept}
-
--- while one room has the token no other has it
-pub sole-token : (n : ℕ) (rooms : ℕ → Room) (queue : List Queued) (messages : List Wire) (hand : ℕ → ℕ) (loose : ℕ)
-    → Moment n rooms queue messages hand loose → (x c : ℕ) → x < n → c < n → c ≢ x → rooms x .token ≡ true → rooms c .token ≡ false
-unfolding tokens
-sole-token n rooms queue messages hand loose s x c hx hc ne t =
-    split (rooms c .token)
-    (λ e. absurd (omega (arith, s .token, sum-two n (λ c. one (rooms c .token)) c x hc hx ne, ap one e, ap one t)))
-    (λ e. e)
 
 -- a waiting room counts as 1
 pub waits-one : (r : Room) (m : ℕ) → due r ≡ m → 1 ≤ m → waiting r ≡ 1
@@ -86,8 +77,8 @@ module _ (n : ℕ) (rooms : ℕ → Room) (kept : List Wire) (w : Work) (q : Que
   module _ (with : w .room .token ≡ true) (other : q .room ≢ w .me) where
     tokenless : now rooms w (q .room) .token ≡ false
     tokenless =
-        sole-token n (now rooms w) (q ∷ rest) (kept ++ w .sent) empty 0 (a .moment) (w .me) (q .room) (a .low) (head .low) other
-        (rw (changed-same rooms (w .me) (w .room)) with)
+        holder-alone n (now rooms w) (kept ++ w .sent) (omega (arith, a .moment .token)) (w .me) (a .low) (rw (changed-same rooms (w .me) (w .room)) with)
+        (q .room) (head .low) other
 
     -- "if owned can lend it, lend"
     pub turn-lend : canLend (owned (w .room)) (q .mode) ≡ true → Whole n rooms kept (withQueue (lend w (q .room) (q .mode)) rest)

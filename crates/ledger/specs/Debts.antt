@@ -9,7 +9,8 @@ use borrow.Author.Tests.{le-ltb, eq-eqb, ne-eqb}
 use Rattle.base.specs.Choice.{split}
 use Rattle.base.specs.Lists.{Mem}
 use Rattle.base.specs.Folds.{folds, folds-still}
-use Rattle.modes.specs.Modes.{isStronger}
+use Rattle.modes.specs.Codes.{none}
+use Rattle.modes.proofs.Laws.{stronger-larger}
 use Rattle.room.specs.declared.Room.{Room}
 use Rattle.room.specs.declared.Entry.{Entry}
 use Rattle.room.specs.Record.{noEntry}
@@ -114,5 +115,5 @@ unfolding flush
 flush-other e l m h = simp (ne-eqb (e .link) l h)
 
 pub flush-none : (l m : ℕ) → flush noEntry (msg.Reduce l m) ≡ noEntry
-unfolding flush isStronger
-flush-none l m = simp (le-ltb m 0 (omega arith), and-false)
+unfolding flush
+flush-none l m = simp (sym (stronger-larger none m) ∙ le-ltb m none (omega arith), and-false)

@@ -1,18 +1,14 @@
 -- LEDGER and LINKS are kept where a GRANT or the TOKEN arrives: a lender other than its sender is paid back first.
 use mathlib.Core.Path.{_≡_, refl, sym, _∙_, ap}
-use mathlib.Core.Logic.{_≢_, _⊎_, inl, inr, ⊎-elim}
-use mathlib.Core.Bool.{Bool, true, false, _||_}
+use mathlib.Core.Logic.{_≢_, _⊎_, inl, ⊎-elim}
 use mathlib.Core.List.{List, [], _∷_, _++_, append-nil, Memᴰ·append-left}
 use Prim.Native.Nat.{ℕ, zero, suc, _≤_, _<_}
 use native.Mathlib.Nat.{not-suc-le-zero, le-of-suc-le-suc}
 use native.Mathlib.Omega.{arith}
-use lib.Dec.{eqb}
 use lib.ListN.{length, length-append, List·getD-append}
-use borrow.Author.Tests.{eqb-true, eq-eqb}
-use Rattle.base.specs.Choice.{by-test}
-use Rattle.base.specs.Tests.{or-use, or-left, clash}
 use Rattle.base.specs.Lists.{Mem, mem-snoc, mem-at, remove}
 use Rattle.room.specs.declared.Room.{Room}
+use Rattle.room.specs.declared.Send.{Send}
 use Rattle.room.specs.Limits.{roomLimit, nobody}
 use Rattle.room.specs.Record.{withModes, withDebt}
 use Rattle.room.specs.Rules.{credited, tokenedBy}
@@ -22,7 +18,8 @@ use Rattle.table.specs.declared.Message.the-variants as msg
 use Rattle.table.specs.Tables.{noWire}
 use Rattle.table.specs.Oldest.{between}
 use Rattle.facts.specs.Rooms.{RoomFacts}
-use Rattle.facts.specs.Wires.{wire, leavingSent}
+use Rattle.facts.specs.Wires.{wire, sentBy, leavingSent}
+use Rattle.facts.specs.Cases.{leaving-send}
 use Rattle.kept.specs.Changed.{changed, changed-same, changed-other}
 use Rattle.ledger.specs.Loans.{Ledger}
 use Rattle.ledger.specs.Links.{Links}
@@ -81,35 +78,25 @@ module _ (n : ℕ) (old new : ℕ → Room) (messages : List Wire) (me : ℕ) (l
       reduces : (x y : ℕ) → msg.Reduce (old me .link) 0 ≡ msg.Grant x y → ⊥
       reduces x y z = let q : _≡_ {A = ℕ} 0 1 = cc in absurd (omega arith)
 
-  -- whether a lender is paid back
-  abbrev stays : Bool
-  stays = eqb (old me .lender) nobody || eqb (old me .lender) a
-
-  same : stays ≡ true → (old me .lender ≡ nobody) ⊎ (old me .lender ≡ a)
-  same b = ⊎-elim (λ e. inl (eqb-true _ _ e)) (λ e. inr (eqb-true _ _ e)) (or-use (eqb (old me .lender) nobody) (eqb (old me .lender) a) b)
-
-  some : stays ≡ false → old me .lender ≢ nobody
-  some b e = clash (or-left (eqb (old me .lender) nobody) (eqb (old me .lender) a) (eq-eqb _ _ e)) b
-
-  pay-ledger : stays ≡ false → Ledger n paid (messages ++ (reduce ∷ []))
+  pay-ledger : old me .lender ≢ nobody → Ledger n paid (messages ++ (reduce ∷ []))
   unfolding credited
-  pay-ledger b =
-      ledger-pay n old paid messages me paid-other ledger 0 paid-me (above (old me .credit) (λ e. some b (facts .none-nobody e)))
-      (facts .lender-low (some b)) (facts .lender-other) small links
+  pay-ledger some =
+      ledger-pay n old paid messages me paid-other ledger 0 paid-me (above (old me .credit) (λ e. some (facts .none-nobody e)))
+      (facts .lender-low some) (facts .lender-other) small links
     where
       above : (c : ℕ) → c ≢ 0 → 0 < c
       above c e = omega arith
 
-  pay-links : stays ≡ false → Links n paid (messages ++ (reduce ∷ []))
+  pay-links : old me .lender ≢ nobody → Links n paid (messages ++ (reduce ∷ []))
   unfolding credited
-  pay-links b = links-pay n old paid messages me paid-other links 0 paid-me (facts .lender-low (some b)) low small senders
+  pay-links some = links-pay n old paid messages me paid-other links 0 paid-me (facts .lender-low some) low small senders
 
   -- a lender that stays, and one that is paid back
-  leaving-both : (stays ≡ true → Both (remove k messages)) → (stays ≡ false → Both (remove k (messages ++ (reduce ∷ []))))
-      → Both (remove k messages ++ leavingSent me (old me) a)
+  leaving-both : ((old me .lender ≡ nobody) ⊎ (old me .lender ≡ a) → Both (remove k messages))
+      → (old me .lender ≢ nobody → Both (remove k (messages ++ (reduce ∷ [])))) → Both (remove k messages ++ leavingSent me (old me) a)
   unfolding leavingSent
   leaving-both f g =
-      by-test (λ (l : List Wire). Both (remove k messages ++ l)) stays [] (reduce ∷ [])
+      leaving-send (old me) a (λ (s : Send). Both (remove k messages ++ sentBy me s))
       (λ b. rw (append-nil (remove k messages)) (f b)) (λ b. rw (← remove-front messages reduce k (o .low)) (g b))
 
   -- "GRANT"
@@ -118,7 +105,7 @@ module _ (n : ℕ) (old new : ℕ → Room) (messages : List Wire) (me : ℕ) (l
   granted-both j l e here =
       leaving-both
       (λ b. (
-        ledger-grant n old new messages me others ledger k a other m o small (same b) j l e here,
+        ledger-grant n old new messages me others ledger k a other m o small b j l e here,
         links-grant n old new messages me others links k a m o alone j l e here other there,
       ))
       (λ b. (
@@ -139,7 +126,7 @@ module _ (n : ℕ) (old new : ℕ → Room) (messages : List Wire) (me : ℕ) (l
   tokened-both j rest l e here =
       leaving-both
       (λ b. (
-        ledger-token n old new messages me others ledger k a other m o small (same b) j rest l e here from-low place,
+        ledger-token n old new messages me others ledger k a other m o small b j rest l e here from-low place,
         links-token n old new messages me others links k a m o alone j rest l e here small,
       ))
       (λ b. (

@@ -13,7 +13,7 @@ use Rattle.base.specs.Choice.{by-test, split}
 use Rattle.base.specs.Sums.{same?}
 use Rattle.base.specs.Lists.{Mem}
 use Rattle.base.specs.Folds.{folds, folds-still}
-use Rattle.modes.specs.Modes.{isStronger}
+use Rattle.modes.proofs.Laws.{stronger-larger}
 use Rattle.room.specs.declared.Room.{Room}
 use Rattle.room.specs.declared.Entry.{Entry}
 use Rattle.room.specs.Limits.{roomLimit, nobody}
@@ -25,6 +25,7 @@ use Rattle.table.specs.declared.Message.the-variants as msg
 use Rattle.table.specs.Oldest.{between}
 use Rattle.table.specs.Formed.{isToken}
 use Rattle.facts.specs.Wires.{wire}
+use Rattle.facts.specs.Cases.{credited-either}
 use Rattle.ledger.specs.Loans.{flush, owe, arriving, debt, flushed, owed, Ledger}
 use Rattle.ledger.specs.Links.{Links}
 use Rattle.ledger.specs.Arrivals.{arriving-other, arriving-this, more}
@@ -117,10 +118,8 @@ module _ (n : ℕ) (old new : ℕ → Room) (messages : List Wire) (me : ℕ) (o
     reduce = wire me lender (msg.Reduce (old me .link) m)
 
     entries : (c j : ℕ) → entryAt (new c) j ≡ entryAt (old c) j
-    unfolding credited
     entries c j =
-        alike old new me others (λ r. entryAt r j)
-        (rw here (by-test (λ (r : Room). entryAt r j ≡ entryAt (old me) j) (eqb m 0) (withDebt (old me) nobody m 0) (withDebt (old me) lender m (old me .link)) (λ b. refl) (λ b. refl))) c
+        alike old new me others (λ r. entryAt r j) (rw here (credited-either (old me) m (λ (r : Room). entryAt r j ≡ entryAt (old me) j) refl refl)) c
 
     -- what the record says now
     debt-now : debt (new me) lender ≡ entryOf m (old me .link)
@@ -133,17 +132,16 @@ module _ (n : ℕ) (old new : ℕ → Room) (messages : List Wire) (me : ℕ) (o
 
     -- it says of no other that something is owed
     debt-other : (p : ℕ) → p < n → p ≢ lender → debt (new me) p ≡ noEntry
-    unfolding credited
     debt-other p l e =
         rw here
-        (by-test (λ (r : Room). debt r p ≡ noEntry) (eqb m 0) (withDebt (old me) nobody m 0) (withDebt (old me) lender m (old me .link))
-        (λ b. debt-none (withDebt (old me) nobody m 0) p (λ k. omega arith))
-        (λ b. debt-none (withDebt (old me) lender m (old me .link)) p (λ k. e (sym k))))
+        (credited-either (old me) m (λ (r : Room). debt r p ≡ noEntry) (debt-none (withDebt (old me) nobody m 0) p (λ k. omega arith))
+        (debt-none (withDebt (old me) lender m (old me .link)) p (λ k. e (sym k))))
 
     -- the REDUCE lowers the loan that it is of,
     lowered : flush (record { mode = old me .credit; link = old me .link }) (msg.Reduce (old me .link) m) ≡ entryOf m (old me .link)
-    unfolding flush isStronger
-    lowered = simp (eq-eqb (old me .link) (old me .link) refl, lt-ltb m (old me .credit) falls)
+    unfolding flush
+    lowered =
+        simp (eq-eqb (old me .link) (old me .link) refl, sym (stronger-larger (old me .credit) m) ∙ lt-ltb m (old me .credit) falls)
 
     -- and leaves a newer one, and none
     newer : (w : Wire) → Mem w messages → between lender me w ≡ true → (v : Message) → w .message ≡ v → isSetting v ≡ true

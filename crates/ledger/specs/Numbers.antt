@@ -5,19 +5,18 @@ use mathlib.Core.Bool.{Bool, true, false}
 use mathlib.Core.List.{List, [], _∷_, _++_}
 use Prim.Native.Nat.{ℕ, _≤_, _<_}
 use native.Mathlib.Omega.{arith}
-use lib.Dec.{eqb}
-use Rattle.base.specs.Choice.{by-test}
 use Rattle.base.specs.Sums.{same?}
 use Rattle.base.specs.Lists.{Mem, mem-snoc}
 use Rattle.room.specs.declared.Room.{Room}
 use Rattle.room.specs.Limits.{roomLimit, nobody}
-use Rattle.room.specs.Record.{withModes, withDebt}
+use Rattle.room.specs.Record.{withModes}
 use Rattle.room.specs.Rules.{nextLink, lentTo, left, remaining, passedTo}
 use Rattle.table.specs.declared.Wire.{Wire}
 use Rattle.table.specs.declared.Message.the-variants as msg
 use Rattle.table.specs.Oldest.{between}
 use Rattle.table.specs.Formed.{isToken}
 use Rattle.facts.specs.Wires.{wire}
+use Rattle.facts.specs.Cases.{passed-either}
 use Rattle.ledger.specs.Links.{lift, reach, Links}
 use Rattle.ledger.specs.Arrivals.{arriving-this, more}
 use Rattle.ledger.specs.Frames.{alike, same-wire}
@@ -144,7 +143,7 @@ module _ (n : ℕ) (old new : ℕ → Room) (messages : List Wire) (me : ℕ) (o
   pub links-pass : (y m : ℕ) → new me ≡ passedTo (old me) y → old me .counter ≤ nextLink (old me .counter) → n ≤ roomLimit → old me .lender ≡ nobody
       → ((w : Wire) → Mem w messages → w .to ≡ me → (k l : ℕ) → w .message ≡ msg.Grant k l → ⊥)
       → Links n new (messages ++ (wire me y (msg.Token m (remaining (old me) y) (nextLink (old me .counter))) ∷ []))
-  unfolding passedTo left lift
+  unfolding left lift
   links-pass y m here up small free ungranted =
       links-kept n old new messages (messages ++ (token ∷ [])) links (grows-sent token (omega (arith, count))) (counters-kept (omega (arith, count)))
       (either token (omega (arith, count)) (silent-token new (messages ++ (token ∷ [])) me y m (remaining (old me) y) link))
@@ -157,11 +156,8 @@ module _ (n : ℕ) (old new : ℕ → Room) (messages : List Wire) (me : ℕ) (o
       token : Wire
       token = wire me y (msg.Token m (remaining (old me) y) link)
 
-      owing : Room
-      owing = withDebt (left (old me) y) y (remaining (old me) y) link
-
       count : new me .counter ≡ link
-      count = rw here (by-test (λ (r : Room). r .counter ≡ link) (eqb (remaining (old me) y) 0) (left (old me) y) owing (λ b. refl) (λ b. refl))
+      count = rw here (passed-either (old me) y (λ (r : Room). r .counter ≡ link) refl refl)
 
       reaches : link ≤ reach new (messages ++ (token ∷ [])) y me
       reaches =
@@ -170,7 +166,7 @@ module _ (n : ℕ) (old new : ℕ → Room) (messages : List Wire) (me : ℕ) (o
 
       own : (p : ℕ) → p < n → new me .lender ≡ p → new me .link ≤ reach new (messages ++ (token ∷ [])) p me
       own p lp e =
-          by-test (λ (r : Room). new me ≡ r → new me .link ≤ reach new (messages ++ (token ∷ [])) p me) (eqb (remaining (old me) y) 0) (left (old me) y) owing
-          (λ b q. absurd (omega (arith, e, ap (λ (r : Room). r .lender) q)))
-          (λ b q. rw (sym e ∙ ap (λ (r : Room). r .lender) q, ap (λ (r : Room). r .link) q) reaches)
+          passed-either (old me) y (λ (r : Room). new me ≡ r → new me .link ≤ reach new (messages ++ (token ∷ [])) p me)
+          (λ q. absurd (omega (arith, e, ap (λ (r : Room). r .lender) q)))
+          (λ q. rw (sym e ∙ ap (λ (r : Room). r .lender) q, ap (λ (r : Room). r .link) q) reaches)
           here

@@ -23,6 +23,7 @@ use Rattle.table.specs.declared.Message.the-variants as msg
 use Rattle.table.specs.Oldest.{between}
 use Rattle.table.specs.Formed.{isToken}
 use Rattle.facts.specs.Wires.{wire}
+use Rattle.facts.specs.Cases.{passed-either}
 use Rattle.ledger.specs.Loans.{flush, owe, arriving, debt, flushed, owed, Ledger}
 use Rattle.ledger.specs.Arrivals.{arriving-other, arriving-this, more}
 use Rattle.ledger.specs.Frames.{other-sender, other-receiver, same-wire, receiver-is}
@@ -56,19 +57,15 @@ module _ (n : ℕ) (old new : ℕ → Room) (messages : List Wire) (me : ℕ) (o
   token = wire me y (msg.Token m rest link)
 
   entry-new : entryAt (new me) y ≡ noEntry
-  unfolding passedTo left
-  entry-new =
-      rw here
-      (by-test (λ (r : Room). entryAt r y ≡ noEntry) (eqb rest 0) (left (old me) y) owing (λ b. cleared) (λ b. cleared))
+  unfolding left
+  entry-new = rw here (passed-either (old me) y (λ (r : Room). entryAt r y ≡ noEntry) cleared cleared)
     where
       cleared : entryAt (left (old me) y) y ≡ noEntry
       cleared = getD-set-same (old me .entries) y noEntry noEntry place
 
   entry-old : (c : ℕ) → c ≢ y → entryAt (new me) c ≡ entryAt (old me) c
-  unfolding passedTo left
-  entry-old c e =
-      rw here
-      (by-test (λ (r : Room). entryAt r c ≡ entryAt (old me) c) (eqb rest 0) (left (old me) y) owing (λ b. same) (λ b. same))
+  unfolding left
+  entry-old c e = rw here (passed-either (old me) y (λ (r : Room). entryAt r c ≡ entryAt (old me) c) same same)
     where
       same : entryAt (left (old me) y) c ≡ entryAt (old me) c
       same = getD-set-other (old me .entries) y c noEntry noEntry e
@@ -86,12 +83,11 @@ module _ (n : ℕ) (old new : ℕ → Room) (messages : List Wire) (me : ℕ) (o
   debt-old p l = debt-none (old me) p (λ e. omega (arith, free))
 
   debt-other : (p : ℕ) → p < n → p ≢ y → debt (new me) p ≡ noEntry
-  unfolding passedTo left
+  unfolding left
   debt-other p l e =
       rw here
-      (by-test (λ (r : Room). debt r p ≡ noEntry) (eqb rest 0) (left (old me) y) owing
-      (λ b. debt-none (left (old me) y) p (λ k. omega (arith, free)))
-      (λ b. debt-none owing p (λ k. e (sym k))))
+      (passed-either (old me) y (λ (r : Room). debt r p ≡ noEntry) (debt-none (left (old me) y) p (λ k. omega (arith, free)))
+      (debt-none owing p (λ k. e (sym k))))
 
   -- what y owed has ended
   pair-ended : flushed new (messages ++ (token ∷ [])) me y ≡ owed new (messages ++ (token ∷ [])) me y

@@ -1,7 +1,7 @@
 -- LINKS is kept where a room pays back, and where a message is taken off its wire.
 use mathlib.Core.Path.{_≡_, refl, sym, _∙_, ap}
 use mathlib.Core.Logic.{_≢_, _⊎_, inl, inr, ⊎-elim}
-use mathlib.Core.Bool.{Bool, false, _&&_}
+use mathlib.Core.Bool.{Bool, false}
 use mathlib.Core.List.{List, [], _∷_, _++_}
 use Prim.Native.Nat.{ℕ, _≤_, _<_}
 use native.Mathlib.Omega.{arith}
@@ -10,16 +10,16 @@ use Rattle.base.specs.Choice.{by-test}
 use Rattle.base.specs.Sums.{same?}
 use Rattle.base.specs.Lists.{Mem, remove, mem-remove}
 use Rattle.base.specs.Folds.{folds}
-use Rattle.modes.specs.Modes.{isStronger}
 use Rattle.room.specs.declared.Room.{Room}
 use Rattle.room.specs.Limits.{roomLimit, nobody}
-use Rattle.room.specs.Record.{entryOf, entryAt, withModes, withDebt, setEntry}
+use Rattle.room.specs.Record.{withModes, withDebt}
 use Rattle.room.specs.Rules.{credited, lifted, tokenedBy, reduced}
 use Rattle.table.specs.declared.Wire.{Wire}
 use Rattle.table.specs.declared.Message.{Message}
 use Rattle.table.specs.declared.Message.the-variants as msg
 use Rattle.table.specs.Formed.{isToken}
 use Rattle.facts.specs.Wires.{wire}
+use Rattle.facts.specs.Cases.{reduced-either}
 use Rattle.ledger.specs.Loans.{arriving}
 use Rattle.ledger.specs.Links.{lift, reach, Links}
 use Rattle.ledger.specs.Takes.{Oldest, gone-other, gone-still, gone-first}
@@ -106,11 +106,10 @@ module _ (n : ℕ) (old new : ℕ → Room) (messages : List Wire) (me : ℕ) (o
 
     -- "REDUCE" changes no lender and no number
     pub links-reduce : (l j : ℕ) → m ≡ msg.Reduce l j → new me ≡ reduced (old me) a l j → Links n new (remove k messages)
-    unfolding reduced isToken
+    unfolding isToken
     links-reduce l j e here =
-        by-test (λ (r : Room). new me ≡ r → Links n new (remove k messages)) (eqb (entryAt (old me) a .link) l && isStronger (entryAt (old me) a .mode) j)
-        (setEntry (old me) a (entryOf j l)) (old me)
-        (λ b q. links-taken (rw e refl) (rw q refl) (rw q refl) (rw q refl)) (λ b q. links-taken (rw e refl) (rw q refl) (rw q refl) (rw q refl)) here
+        reduced-either (old me) a l j (λ (r : Room). new me ≡ r → Links n new (remove k messages))
+        (λ q. links-taken (rw e refl) (rw q refl) (rw q refl) (rw q refl)) (λ q. links-taken (rw e refl) (rw q refl) (rw q refl) (rw q refl)) here
 
     -- A room with one GRANT or TOKEN under way to it has no other.
     module _ (ungranted : (w : Wire) → Mem w (remove k messages) → w .to ≡ me → (x y : ℕ) → w .message ≡ msg.Grant x y → ⊥) where

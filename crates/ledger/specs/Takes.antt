@@ -24,6 +24,7 @@ use Rattle.table.specs.declared.Message.the-variants as msg
 use Rattle.table.specs.Tables.{noWire}
 use Rattle.table.specs.Oldest.{between}
 use Rattle.facts.specs.Wires.{wire}
+use Rattle.facts.specs.Cases.{reduced-either}
 use Rattle.ledger.specs.Loans.{flush, owe, arriving, debt, flushed, owed, Ledger}
 use Rattle.ledger.specs.Arrivals.{less-other, less-oldest}
 use Rattle.ledger.specs.Frames.{other-sender, other-receiver, same-wire, still}
@@ -99,11 +100,10 @@ module _ (n : ℕ) (old new : ℕ → Room) (messages : List Wire) (me : ℕ) (o
   ledger-reduce l j e here place =
       taken
       (λ v q. rw (q, e, here) entry)
-      (λ c f. rw here (by-test (λ (r : Room). entryAt r c ≡ entryAt (old me) c) (isOf l j) (setEntry (old me) a (entryOf j l)) (old me)
-      (λ b. getD-set-other (old me .entries) a c (entryOf j l) noEntry f) (λ b. refl)))
-      (rw here (by-test (λ (r : Room). folds (arriving owe a me) (debt r a) (remove k messages) ≡ owed old messages a me) (isOf l j) (setEntry (old me) a (entryOf j l)) (old me)
-      (λ b. keep) (λ b. keep)))
-      (λ p lp f. rw here (by-test (λ (r : Room). debt r p ≡ debt (old me) p) (isOf l j) (setEntry (old me) a (entryOf j l)) (old me) (λ b. refl) (λ b. refl)))
+      (λ c f. rw here (reduced-either (old me) a l j (λ (r : Room). entryAt r c ≡ entryAt (old me) c)
+      (getD-set-other (old me .entries) a c (entryOf j l) noEntry f) refl))
+      (rw here (reduced-either (old me) a l j (λ (r : Room). folds (arriving owe a me) (debt r a) (remove k messages) ≡ owed old messages a me) keep keep))
+      (λ p lp f. rw here (reduced-either (old me) a l j (λ (r : Room). debt r p ≡ debt (old me) p) refl refl))
     where
       keep : folds (arriving owe a me) (debt (old me) a) (remove k messages) ≡ owed old messages a me
       keep = gone-still messages k a me m o owe (λ v. rw e refl) a me (debt (old me) a)

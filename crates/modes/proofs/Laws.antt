@@ -1,6 +1,6 @@
 -- Laws of the modes, over plain numbers. A fact of the table is one test that is computed over all codes, pairs or triples of codes.
 use mathlib.Core.Path.{_≡_, refl, sym, _∙_}
-use mathlib.Core.Logic.{⊎-elim}
+use mathlib.Core.Logic.{_≢_, ⊎-elim}
 use mathlib.Core.Bool.{Bool, true, false, not, _&&_, Bool·beq, and-true, and-false, false≢true}
 use mathlib.Core.List.{List, [], _∷_}
 use Prim.Native.Nat.{ℕ, _≤_, _<_}
@@ -11,7 +11,7 @@ use borrow.Author.Tests.{ltb-true, ltb-false, leb-true, eqb-true, not-true, lt-l
 use Rattle.base.specs.Choice.{split}
 use Rattle.base.specs.Tests.{_implies_, and-left, and-right, and-both, implies-use, implies-show, same-use, or-use, clash}
 use Rattle.base.specs.Below.{allBelow, allPairs, allTriples, all-at, all-of, pairs-at, triples-at}
-use Rattle.modes.specs.Codes.{none, IR, R, IW, W, codes, isCode}
+use Rattle.modes.specs.Codes.{none, IR, R, U, IW, W, codes, isCode}
 use Rattle.modes.specs.Modes.{rows, agrees, isStronger, canLend, loans, isListed, lendList}
 use Rattle.modes.specs.Under.{under, small}
 
@@ -241,10 +241,18 @@ small-code o h = split (ltb o 6) (ltb-true o 6) (λ k. past (ltb-false o 6 k))
     past : 6 ≤ o → o < 6
     past p = clash h (simp (ne-eqb o none (omega arith), ne-eqb o IR (omega arith), ne-eqb o R (omega arith), ne-eqb o IW (omega arith)))
 
--- none, IR and R are small
-pub low-small : (o : ℕ) → o ≤ R → small o ≡ true
+-- the small modes are the codes but U and W: none, IR, R and IW
+pub small-weak : (o : ℕ) → small o ≡ true → (o ≢ U) × (o ≢ W)
 unfolding small
-low-small o h = code-rule (λ o. leb o R) small refl o (omega arith) (le-leb o R h)
+small-weak o h = (λ e. absurd (false≢true (rw e at h)), λ e. absurd (false≢true (rw e at h)))
+
+pub weak-small : (o : ℕ) → o ≤ W → o ≢ U → o ≢ W → small o ≡ true
+unfolding small
+weak-small o code u w =
+    code-rule (λ o. not (eqb o U) && not (eqb o W)) small refl o (omega arith) (rw (ne-eqb o U u, ne-eqb o W w) refl)
+
+pub low-small : (o : ℕ) → o ≤ R → small o ≡ true
+low-small o h = weak-small o (omega arith) (λ e. omega arith) (λ e. omega arith)
 
 -- a loan is small; with `lends-some`: it is IR, R or IW
 pub lends-small : (a m : ℕ) → canLend a m ≡ true → small m ≡ true
@@ -264,6 +272,14 @@ under-small-agree x y o h s t =
     let code = small-code o h in
     triple-rule (λ x y o. small o && under x o && under y o) (λ x y o. agrees x y) refl x y o (under-code x o code s, under-code y o code t, code)
     (and-both _ _ (and-both _ _ h s) t)
+
+-- a small mode under a lender is under each of its loans but IR
+pub small-under-loan : (o m e : ℕ) → canLend o m ≡ true → m ≢ IR → small e ≡ true → under e o ≡ true → under e m ≡ true
+unfolding canLend isStronger agrees under small
+small-under-loan o m e can other h u =
+    triple-rule (λ o m e. canLend o m && not (eqb m IR) && small e && under e o) (λ o m e. under e m) refl o m e
+    (lends-codes o m can .0, lends-codes o m can .1, small-code e h)
+    (and-both _ _ (and-both _ _ (and-both _ _ can (rw (ne-eqb m IR other))) h) u)
 
 -- what is under a small mode and is not that mode is none or IR, and weaker
 pub under-small-falls : (a b : ℕ) → small b ≡ true → under a b ≡ true → (a ≡ b → ⊥) → (a ≤ IR) × (a < b)

@@ -17,10 +17,11 @@ use Rattle.modes.specs.Under.{under}
 use Rattle.modes.proofs.Laws.{under-refl, none-under, IR-under, stronger-true}
 use Rattle.room.specs.declared.Room.{Room}
 use Rattle.room.specs.declared.Entry.{Entry}
-use Rattle.room.specs.Limits.{roomLimit, nobody}
+use Rattle.room.specs.Limits.{roomLimit}
 use Rattle.room.specs.Record.{noEntry, entryOf, entryAt, withModes, withDebt, setEntry}
 use Rattle.room.specs.Owned.{owned}
 use Rattle.room.specs.Rules.{nextLink, lentTo, left, remaining, passedTo, credited, tokenedBy, reduced}
+use Rattle.facts.specs.Cases.{passed-either, credited-either}
 use Rattle.owning.specs.Parts.{part}
 use Rattle.owning.specs.Owned.{part-entry, part-held, part-owned, owned-any}
 
@@ -88,9 +89,7 @@ module _ (r : Room) where
 
   -- what is owed is no part
   pub credited-same : (m : ℕ) → Same r (credited r m)
-  unfolding credited
-  credited-same m =
-      by-test (Same r) (eqb m 0) (withDebt r nobody m 0) (withDebt r (r .lender) m (r .link)) (λ e. same-parts r _ refl refl) (λ e. same-parts r _ refl refl)
+  credited-same m = credited-either r m (Same r) (same-parts r _ refl refl) (same-parts r _ refl refl)
 
 -- none and IR are under all that is stronger
 pub weak-under : (m o : ℕ) → m ≤ IR → m < o → under m o ≡ true
@@ -119,19 +118,19 @@ module _ (r : Room) (y : ℕ) (long : length (r .entries) ≡ roomLimit) (low : 
           part-entry (setEntry r y e) i l ∙ ap (λ (e : Entry). e .mode) (getD-set-other (r .entries) y i e noEntry ne) ∙ sym (part-entry r i l)
       go i h ne (inr l) = let k : i ≡ roomLimit = omega arith in rw k (part-held (setEntry r y e) ∙ sym (part-held r))
 
+  pub entry-alters : (m l : ℕ) → Alters r (setEntry r y (entryOf m l)) y m
+  entry-alters m l = set-alters (entryOf m l) m (entry-mode m l)
+
   -- a loan
   pub lent-alters : (m : ℕ) → Alters r (lentTo r y m) y m
   unfolding lentTo
-  lent-alters m =
-      alike r (setEntry r y (entryOf m (nextLink (r .counter)))) _ y m (omega arith)
-      (set-alters (entryOf m (nextLink (r .counter))) m (entry-mode m (nextLink (r .counter)))) refl refl
+  lent-alters m = alike r (setEntry r y (entryOf m (nextLink (r .counter)))) _ y m (omega arith) (entry-alters m (nextLink (r .counter))) refl refl
 
   -- a pass: "the entry for w is cleared"
   passed-same : Same (setEntry r y noEntry) (passedTo r y)
-  unfolding passedTo left
+  unfolding left
   passed-same =
-      by-test (Same (setEntry r y noEntry)) (eqb (remaining r y) 0) (left r y) (withDebt (left r y) y (remaining r y) (nextLink (r .counter)))
-      (λ e. same-parts (setEntry r y noEntry) _ refl refl) (λ e. same-parts (setEntry r y noEntry) _ refl refl)
+      passed-either r y (Same (setEntry r y noEntry)) (same-parts (setEntry r y noEntry) _ refl refl) (same-parts (setEntry r y noEntry) _ refl refl)
 
   pub passed-alters : Alters r (passedTo r y) y none
   passed-alters =
@@ -150,16 +149,13 @@ module _ (r : Room) (y : ℕ) (long : length (r .entries) ≡ roomLimit) (low : 
   unfolding reduced
   reduced-falls l m weak =
       by-test (Falls r) (eqb (entryAt r y .link) l && isStronger (entryAt r y .mode) m) (setEntry r y (entryOf m l)) r
-      (λ e. alters-falls r (setEntry r y (entryOf m l)) y m (set-alters (entryOf m l) m (entry-mode m l)) (lower (stronger-true _ _ (and-right (eqb (entryAt r y .link) l) _ e))))
+      (λ e. alters-falls r (setEntry r y (entryOf m l)) y m (entry-alters m l) (lower (stronger-true _ _ (and-right (eqb (entryAt r y .link) l) _ e))))
       (λ e. same-falls r r (λ i h. refl))
     where
       lower : m < entryAt r y .mode → under m (part r y) ≡ true
       lower h = weak-under m (part r y) weak (omega (arith, part-entry r y low))
 
-  -- a TOKEN: the entry for its sender, then the held mode
-  pub tokened-entry : (rest l : ℕ) → Alters r (setEntry r y (entryOf rest l)) y rest
-  tokened-entry rest l = set-alters (entryOf rest l) rest (entry-mode rest l)
-
+  -- a TOKEN: the entry for its sender has changed, then the held mode
   pub tokened-held : (me m rest l : ℕ) → Alters (setEntry r y (entryOf rest l)) (tokenedBy r me y m rest l) roomLimit m
   unfolding tokenedBy
   tokened-held me m rest l =

@@ -1,18 +1,14 @@
 -- What one room owns is none, or under an entry of another: what that other may lend or pass to it.
-use mathlib.Core.Path.{_≡_, refl}
+use mathlib.Core.Path.{_≡_}
 use mathlib.Core.Logic.{_≢_, _⊎_, inl, inr}
-use mathlib.Core.Bool.{Bool, true, not, _&&_}
+use mathlib.Core.Bool.{true}
 use Prim.Native.Nat.{ℕ, _≤_, _<_}
 use native.Mathlib.Omega.{arith}
-use lib.Dec.{eqb}
-use borrow.Author.Tests.{ne-eqb}
 use Rattle.base.specs.Sums.{same?}
-use Rattle.base.specs.Tests.{_implies_, implies-use, and-both}
-use Rattle.base.specs.Below.{triples-at}
-use Rattle.modes.specs.Codes.{none, IR, codes}
-use Rattle.modes.specs.Modes.{agrees, isStronger, canLend}
+use Rattle.modes.specs.Codes.{none, IR}
+use Rattle.modes.specs.Modes.{canLend}
 use Rattle.modes.specs.Under.{under, small}
-use Rattle.modes.proofs.Laws.{under-trans, under-refl, none-under, small-code, lends-codes}
+use Rattle.modes.proofs.Laws.{under-trans, under-refl, none-under, small-under-loan}
 use Rattle.room.specs.declared.Room.{Room}
 use Rattle.room.specs.Limits.{roomLimit}
 use Rattle.room.specs.Record.{entryAt}
@@ -33,13 +29,9 @@ module _ (p y : Room) (a : Agreeing p) where
   -- a loan of p's fits over what y owns, if a loan of IR finds no more than IR there
   pub loan-fits : (m : ℕ) → canLend (owned p) m ≡ true → ((j : ℕ) → j < roomLimit → small (entryAt p j .mode) ≡ true)
       → Covered p y → (m ≡ IR → owned y ≤ IR) → under (owned y) m ≡ true
-  unfolding canLend isStronger agrees under small
   loan-fits m can weak (inl e) light = rw e (none-under m)
   loan-fits m can weak (inr (j, h, u)) light = go (same? m IR)
     where
-      fits : ℕ → ℕ → ℕ → Bool
-      fits o m e = (canLend o m && not (eqb m IR) && small e && under e o) implies under e m
-
       go : (m ≡ IR) ⊎ (m ≢ IR) → under (owned y) m ≡ true
       go (inl q) = rw q (low (same? (owned y) none))
         where
@@ -47,8 +39,5 @@ module _ (p y : Room) (a : Agreeing p) where
           low (inl z) = rw z (none-under IR)
           low (inr z) = let k : owned y ≡ IR = omega (arith, light q) in rw k (under-refl IR)
       go (inr q) =
-          let c = lends-codes (owned p) m can in
           under-trans (owned y) (entryAt p j .mode) m u
-          (implies-use (canLend (owned p) m && not (eqb m IR) && small (entryAt p j .mode) && under (entryAt p j .mode) (owned p)) _
-          (triples-at codes fits refl (owned p) m (entryAt p j .mode) (c .0) (c .1) (small-code _ (weak j h)))
-          (and-both _ _ (and-both _ _ (and-both _ _ can (rw (ne-eqb m IR q))) (weak j h)) (entry-under p a j h)))
+          (small-under-loan (owned p) m (entryAt p j .mode) can q (weak j h) (entry-under p a j h))

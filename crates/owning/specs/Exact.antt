@@ -1,7 +1,7 @@
 -- EXACT is kept by each change, or is put right again by settling.
 use mathlib.Core.Path.{_≡_, refl, sym, _∙_, ap, subst⁻¹}
 use mathlib.Core.Logic.{_≢_, _⊎_, inl, inr}
-use mathlib.Core.Bool.{true, false, _&&_}
+use mathlib.Core.Bool.{true, false}
 use Prim.Native.Nat.{ℕ, _≤_, _<_}
 use native.Mathlib.Omega.{arith}
 use lib.Dec.{eqb}
@@ -9,17 +9,18 @@ use lib.ListN.{length}
 use borrow.Author.Tests.{eqb-true}
 use Rattle.base.specs.Choice.{by-test}
 use Rattle.base.specs.Tests.{clash}
-use Rattle.base.specs.Sums.{same?, below?}
-use Rattle.modes.specs.Codes.{none, IR, U, IW, W}
+use Rattle.base.specs.Sums.{same?}
+use Rattle.modes.specs.Codes.{none, IR}
 use Rattle.modes.specs.Modes.{isStronger, canLend}
 use Rattle.modes.specs.Under.{under, small}
-use Rattle.modes.proofs.Laws.{stronger-true, stronger-false, low-small, under-small-falls}
+use Rattle.modes.proofs.Laws.{stronger-true, stronger-false, weak-small, under-small-falls}
 use Rattle.room.specs.declared.Room.{Room}
-use Rattle.room.specs.Limits.{roomLimit, nobody}
-use Rattle.room.specs.Record.{entryOf, entryAt, withModes, withDebt, setEntry}
+use Rattle.room.specs.Limits.{roomLimit}
+use Rattle.room.specs.Record.{withModes, withDebt}
 use Rattle.room.specs.Owned.{owned}
 use Rattle.room.specs.Rules.{nextLink, lentTo, left, remaining, passedTo, credited, tokenedBy, reduced}
 use Rattle.facts.specs.Rooms.{RoomFacts}
+use Rattle.facts.specs.Cases.{credited-credit, reduced-credit}
 use Rattle.owning.specs.Clauses.{Square, Exact, Agreeing}
 use Rattle.owning.specs.Owned.{part-held}
 use Rattle.owning.specs.Changes.{same-owned, modes-alters, wanted-same, granted-alters, credited-same, passed-owned}
@@ -35,17 +36,8 @@ pub record ExactBut (x n : ℕ) (rooms : ℕ → Room) : Type 0 where
 
 -- a room without the token holds neither U nor W, so it owns a small mode
 pub owned-weak : (n c : ℕ) (r : Room) → RoomFacts n c r → r .token ≡ false → SmallEntries r → small (owned r) ≡ true
-unfolding small
-owned-weak n c r f without entries = owned-small r entries (held (below? (r .held) U))
-  where
-    other : (m : ℕ) → (r .held ≡ m → r .token ≡ true) → r .held ≢ m
-    other m g e = clash (g e) without
-
-    held : (r .held < U) ⊎ (U ≤ r .held) → small (r .held) ≡ true
-    held (inl h) = low-small (r .held) (omega arith)
-    held (inr h) =
-        let k : r .held ≡ IW = omega (arith, f .held-code, other U (f .U-token), other W (f .W-token)) in
-        rw k refl
+owned-weak n c r f without entries =
+    owned-small r entries (weak-small (r .held) (f .held-code) (λ e. clash (f .U-token e) without) (λ e. clash (f .W-token e) without))
 
 -- where what is owned is not weaker than what is owed there is nothing to settle
 pub exact-still : (x n : ℕ) (rooms : ℕ → Room) → ExactBut x n rooms → isStronger (rooms x .credit) (owned (rooms x)) ≡ false → Exact n rooms
@@ -68,16 +60,12 @@ settle-weak x n rooms b e =
 module _ (n : ℕ) (old new : ℕ → Room) (me : ℕ) (low : me < n) (others : (c : ℕ) → c ≢ me → new c ≡ old c) where
   -- "settle": credit becomes owned
   pub exact-settle : ExactBut me n old → new me ≡ credited (old me) (owned (old me)) → Exact n new
-  unfolding credited
   exact-settle b here c h t = go (same? c me)
     where
-      owes : (m : ℕ) → credited (old me) m .credit ≡ m
-      owes m = by-test (λ (r : Room). r .credit ≡ m) (eqb m 0) (withDebt (old me) nobody m 0) (withDebt (old me) (old me .lender) m (old me .link)) (λ e. refl) (λ e. refl)
-
       go : (c ≡ me) ⊎ (c ≢ me) → Square (new c)
       go (inl e) =
           rw (e, here)
-          (owes (owned (old me)) ∙ sym (same-owned (old me) (credited (old me) (owned (old me))) (credited-same (old me) (owned (old me)))))
+          (credited-credit (old me) (owned (old me)) ∙ sym (same-owned (old me) (credited (old me) (owned (old me))) (credited-same (old me) (owned (old me)))))
       go (inr e) = rw (others c e) (b .others c h e (ap (λ (r : Room). r .token) (sym (others c e)) ∙ t))
 
   module _ (x : Exact n old) where
@@ -159,12 +147,6 @@ module _ (n : ℕ) (old new : ℕ → Room) (me : ℕ) (low : me < n) (others : 
             (rw here (lent-weaker (old me) agreeing y long near m can))
 
         pub but-reduce : (l m : ℕ) → m ≤ IR → new me ≡ reduced (old me) y l m → ExactBut me n new
-        unfolding reduced
         but-reduce l m weak here =
-            falls (ap (λ (r : Room). r .credit) here ∙ owes)
+            falls (ap (λ (r : Room). r .credit) here ∙ reduced-credit (old me) y l m)
             (rw here (reduced-weaker (old me) agreeing y long near l m weak))
-          where
-            owes : reduced (old me) y l m .credit ≡ old me .credit
-            owes =
-                by-test (λ (r : Room). r .credit ≡ old me .credit) (eqb (entryAt (old me) y .link) l && isStronger (entryAt (old me) y .mode) m)
-                (setEntry (old me) y (entryOf m l)) (old me) (λ e. refl) (λ e. refl)

@@ -1,24 +1,23 @@
 -- Messages come and go: what is said of every message, and what a change of the messages leaves to be shown.
 use mathlib.Core.Path.{_≡_, ap}
 use mathlib.Core.Logic.{_≢_, _⊎_, inl, inr, ⊎-elim}
-use mathlib.Core.Bool.{Bool, false, _||_}
+use mathlib.Core.Bool.{Bool, false}
 use mathlib.Core.List.{List, [], _∷_, _++_, List·Memᴰ·not-nil, List·Memᴰ·eq-of-singleton, List·Memᴰ·append-cases}
 use Prim.Native.Nat.{ℕ}
 use native.Mathlib.Omega.{arith}
-use lib.Dec.{eqb}
 use borrow.Author.Tests.{eq-eqb}
-use Rattle.base.specs.Choice.{by-test, split}
+use Rattle.base.specs.Choice.{split}
 use Rattle.base.specs.Tests.{clash}
 use Rattle.base.specs.Sums.{one}
 use Rattle.base.specs.Lists.{Mem, mem-snoc, mem-total}
 use Rattle.room.specs.declared.Room.{Room}
-use Rattle.room.specs.Limits.{nobody}
 use Rattle.table.specs.declared.Wire.{Wire}
 use Rattle.table.specs.declared.Queued.{Queued}
 use Rattle.table.specs.declared.Message.{Message}
 use Rattle.table.specs.declared.Message.the-variants as msg
 use Rattle.table.specs.Formed.{isNamedIn, names}
 use Rattle.facts.specs.Wires.{wire, leavingSent}
+use Rattle.facts.specs.Cases.{leaving-either}
 
 -- every message after a change was there before, but for x
 abbrev pub Among : List Wire → List Wire → Wire → Type 0
@@ -32,11 +31,8 @@ abbrev pub leavingWire : ℕ → Room → Wire
 leavingWire me r = wire me (r .lender) (msg.Reduce (r .link) 0)
 
 leaving-member : (me : ℕ) (r : Room) (a : ℕ) (w : Wire) → Mem w (leavingSent me r a) → w ≡ leavingWire me r
-unfolding leavingSent
 leaving-member me r a w =
-    by-test (λ (l : List Wire). Mem w l → w ≡ leavingWire me r) (eqb (r .lender) nobody || eqb (r .lender) a) [] (leavingWire me r ∷ [])
-    (λ e h. absurd (List·Memᴰ·not-nil h))
-    (λ e h. List·Memᴰ·eq-of-singleton h)
+    leaving-either me r a (λ (l : List Wire). Mem w l → w ≡ leavingWire me r) (λ h. absurd (List·Memᴰ·not-nil h)) (λ e h. List·Memᴰ·eq-of-singleton h)
 
 pub leaving-among : (messages : List Wire) (me : ℕ) (r : Room) (a : ℕ) → Among (messages ++ leavingSent me r a) messages (leavingWire me r)
 leaving-among messages me r a w h = ⊎-elim (λ m. inl m) (λ m. inr (leaving-member me r a w m)) (List·Memᴰ·append-cases messages h)

@@ -8,7 +8,7 @@ use native.Mathlib.Omega.{arith}
 use lib.ListN.{length, getD}
 use Rattle.base.specs.Sums.{same?}
 use Rattle.base.specs.Lists.{remove, mem-at}
-use Rattle.modes.specs.Codes.{none, IR, W}
+use Rattle.modes.specs.Codes.{none, W}
 use Rattle.modes.specs.Modes.{agrees, canLend}
 use Rattle.modes.specs.Under.{under, small}
 use Rattle.modes.proofs.Laws.{agrees-sym, agrees-none, under-refl, under-trans, agrees-under, low-small, not-lent-low, under-small-agree}
@@ -22,9 +22,9 @@ use Rattle.table.specs.declared.Message.the-variants as msg
 use Rattle.table.specs.Tables.{noWire}
 use Rattle.facts.specs.Wires.{wire, leavingSent}
 use Rattle.owning.specs.Parts.{part}
-use Rattle.owning.specs.Clauses.{Agreeing, Pairs}
+use Rattle.owning.specs.Clauses.{ReduceSmall, Agreeing, Pairs}
 use Rattle.owning.specs.Owned.{part-under, agrees-part, entries-none}
-use Rattle.owning.specs.Changes.{Falls, Alters, same-falls, modes-alters, wanted-same, granted-alters, credited-same, lent-alters, passed-owned, reduced-falls, tokened-entry, tokened-held}
+use Rattle.owning.specs.Changes.{Falls, Alters, same-falls, modes-alters, wanted-same, granted-alters, credited-same, lent-alters, passed-owned, reduced-falls, entry-alters, tokened-held}
 use Rattle.owning.specs.Falls.{alters-agreeing}
 use Rattle.owning.specs.Weaker.{hand-back-falls, passed-falls, passed-weaker}
 use Rattle.owning.specs.Messages.{kind, Unnamed}
@@ -136,11 +136,11 @@ module _ (n : ℕ) (old new : ℕ → Room) (messages : List Wire) (me : ℕ) (l
               λ i h. under-small-agree (remaining (old me) y) (part (old y) i) (owned (old me)) weak rest-under (theirs-under i h),
             )
 
-    -- a REDUCE to none or IR arrives
-    pub pairs-reduce : (k l m : ℕ) → m ≤ IR → new me ≡ reduced (old me) y l m → Pairs n new (remove k messages)
+    -- a REDUCE arrives: it is to none or IR, and so under what it lowers
+    pub pairs-reduce : (k l m : ℕ) → ReduceSmall (wire y me (msg.Reduce l m)) → new me ≡ reduced (old me) y l m → Pairs n new (remove k messages)
     pairs-reduce k l m weak here =
         pairs-taken n new messages
-        (pairs-falls n old new messages me low others p (rw here (reduced-falls (old me) y long (omega arith) l m weak)))
+        (pairs-falls n old new messages me low others p (rw here (reduced-falls (old me) y long (omega arith) l m (omega (arith, weak l m refl)))))
         k
 
     -- a TOKEN arrives
@@ -159,7 +159,7 @@ module _ (n : ℕ) (old new : ℕ → Room) (messages : List Wire) (me : ℕ) (l
         between = setEntry (old me) y (entryOf rest l)
 
         entry : Alters (old me) between y rest
-        entry = tokened-entry (old me) y long (omega arith) rest l
+        entry = entry-alters (old me) y long (omega arith) rest l
 
         held : (i : ℕ) → i ≤ roomLimit → (i ≡ y) ⊎ (i ≢ y) → agrees m (part between i) ≡ true
         held i h (inl e) = rw (e, entry .there) (came m rest l refl .0)

@@ -15,13 +15,14 @@ use Rattle.modes.specs.Codes.{none, U, W}
 use Rattle.modes.specs.Modes.{agrees, canLend}
 use Rattle.modes.proofs.Laws.{agrees-sym, past-agrees, agrees-W}
 use Rattle.room.specs.declared.Room.{Room}
-use Rattle.room.specs.Record.{withModes, withDebt}
+use Rattle.room.specs.Record.{withModes}
 use Rattle.room.specs.Owned.{owned, hasNoEntries}
-use Rattle.room.specs.Rules.{nextLink, lent, lentTo, left, remaining, passed, passedTo}
+use Rattle.room.proofs.Owning.{owned-held}
+use Rattle.room.specs.Rules.{lent, lentTo, left, passed, passedTo}
 use Rattle.table.specs.declared.Queued.{Queued}
 use Rattle.rules.specs.Work.{Work, send}
 use Rattle.rules.specs.Rules.{hold, lend, pass, upgradeWaits, upgraded, serveQueue, serve, isEmpty}
-use Rattle.kept.specs.Owns.{owned-held}
+use Rattle.facts.specs.Cases.{passed-either}
 use Rattle.owning.specs.Clauses.{Blocked, UpgradeServed, HeadServed, Served}
 use Rattle.owning.specs.Changes.{same-owned, wanted-same}
 use Rattle.owning.specs.Blocked.{blocked-same, blocked-ask}
@@ -44,16 +45,12 @@ waits-not r e =
 
 -- a pass gives the token away, and leaves held and wanted modes as they were
 passed-gone : (r : Room) (y : ℕ) → passedTo r y .token ≡ false
-unfolding passedTo left
-passed-gone r y =
-    by-test (λ (s : Room). s .token ≡ false) (eqb (remaining r y) 0) (left r y) (withDebt (left r y) y (remaining r y) (nextLink (r .counter)))
-    (λ e. refl) (λ e. refl)
+unfolding left
+passed-gone r y = passed-either r y (λ (s : Room). s .token ≡ false) refl refl
 
 passed-waits : (r : Room) (y : ℕ) → upgradeWaits (passedTo r y) ≡ upgradeWaits r
-unfolding passedTo left upgradeWaits
-passed-waits r y =
-    by-test (λ (s : Room). upgradeWaits s ≡ upgradeWaits r) (eqb (remaining r y) 0) (left r y)
-    (withDebt (left r y) y (remaining r y) (nextLink (r .counter))) (λ e. refl) (λ e. refl)
+unfolding left upgradeWaits
+passed-waits r y = passed-either r y (λ (s : Room). upgradeWaits s ≡ upgradeWaits r) refl refl
 
 queue-ended : (queue : List Queued) (w : Work) → Ended (serveQueue w queue)
 unfolding serveQueue hold lend pass send lent passed Blocked

@@ -6,7 +6,7 @@ use mathlib.Core.List.{List, [], _∷_, _++_}
 use Prim.Native.Nat.{ℕ, _≤_, _<_}
 use native.Mathlib.Omega.{arith}
 use lib.ListN.{length, getD}
-use Rattle.base.specs.Sums.{same?, below?}
+use Rattle.base.specs.Sums.{same?}
 use Rattle.base.specs.Lists.{remove, mem-at, mem-remove}
 use Rattle.modes.specs.Codes.{none, IR, R}
 use Rattle.modes.specs.Modes.{agrees, canLend}
@@ -16,15 +16,17 @@ use Rattle.room.specs.declared.Room.{Room}
 use Rattle.room.specs.Limits.{roomLimit}
 use Rattle.room.specs.Record.{entryOf, entryAt, withModes, withDebt, setEntry}
 use Rattle.room.specs.Owned.{owned}
+use Rattle.room.proofs.Owning.{owned-either}
 use Rattle.room.specs.Rules.{lentTo, remaining, passedTo, credited, tokenedBy, reduced}
 use Rattle.table.specs.declared.Wire.{Wire}
 use Rattle.table.specs.declared.Message.the-variants as msg
 use Rattle.table.specs.Tables.{noWire}
 use Rattle.facts.specs.Wires.{wire, leavingSent}
+use Rattle.facts.specs.Cases.{reduced-either}
 use Rattle.owning.specs.Parts.{part}
 use Rattle.owning.specs.Clauses.{ReduceSmall, Small}
-use Rattle.owning.specs.Owned.{part-entry, part-held, part-owned, owned-any}
-use Rattle.owning.specs.Changes.{Falls, Alters, same-falls, credited-same, lent-alters, passed-alters, passed-owned, reduced-falls, tokened-entry, tokened-held}
+use Rattle.owning.specs.Owned.{part-entry, part-owned, owned-any}
+use Rattle.owning.specs.Changes.{Falls, Alters, same-falls, credited-same, lent-alters, passed-alters, passed-owned, entry-alters, tokened-held}
 use Rattle.owning.specs.Weaker.{passed-falls}
 use Rattle.owning.specs.Messages.{Among, sent-among, leaving-among, leavingWire, kind}
 
@@ -54,11 +56,7 @@ module _ (r s : Room) (k : SmallEntries r) where
 
 -- what a room owns is small, if its entries are and what it holds
 pub owned-small : (r : Room) → SmallEntries r → small (r .held) ≡ true → small (owned r) ≡ true
-owned-small r entries held = owned-any r (λ (m : ℕ). small m ≡ true) (λ i h. go i h (below? i roomLimit))
-  where
-    go : (i : ℕ) → i ≤ roomLimit → (i < roomLimit) ⊎ (roomLimit ≤ i) → small (part r i) ≡ true
-    go i h (inl l) = rw (part-entry r i l) (entries i l)
-    go i h (inr l) = let k : i ≡ roomLimit = omega arith in rw (k, part-held r) held
+owned-small r entries held = owned-either r (λ (m : ℕ). small m ≡ true) held entries
 
 -- other messages: only the new one has to be looked at
 small-among : (n : ℕ) (rooms : ℕ → Room) (before after : List Wire) (x : Wire) → Among after before x
@@ -158,16 +156,18 @@ module _ (n : ℕ) (old new : ℕ → Room) (messages : List Wire) (me : ℕ) (l
             go i h (inl e) = rw (e, alters .there) (omega arith)
             go i h (inr e) = rw (alters .others i h e) (omega (arith, part-owned (old me) i h, not-lent-low (owned (old me)) m some agree cannot))
 
-    -- a REDUCE arrives
+    -- a REDUCE arrives: an entry that falls is none, IR or R
     pub small-reduce : (k l m : ℕ) → k < length messages → getD messages k noWire ≡ wire y me (msg.Reduce l m) → new me ≡ reduced (old me) y l m
         → Small n new (remove k messages)
     small-reduce k l m place found here =
-        small-taken n new messages
-        (small-room (rw here (falls-small (old me) (reduced (old me) y l m) entries (reduced-falls (old me) y long (omega arith) l m weak))))
-        k
+        small-taken n new messages (small-room (rw here (reduced-either (old me) y l m SmallEntries lowered entries))) k
       where
-        weak : m ≤ IR
-        weak = s .new (getD messages k noWire) (mem-at messages k noWire place) l m (rw found refl)
+        weak : m ≤ R
+        weak = omega (arith, s .new (getD messages k noWire) (mem-at messages k noWire place) l m (rw found refl))
+
+        lowered : SmallEntries (setEntry (old me) y (entryOf m l))
+        lowered =
+            alters-small (old me) (setEntry (old me) y (entryOf m l)) entries y m (entry-alters (old me) y long (omega arith) m l) (λ h. low-small m weak)
 
     -- a TOKEN arrives: the entry for its sender is what remained there
     pub small-token : (k m rest l : ℕ) → k < length messages → getD messages k noWire ≡ wire y me (msg.Token m rest l)
@@ -181,5 +181,5 @@ module _ (n : ℕ) (old new : ℕ → Room) (messages : List Wire) (me : ℕ) (l
         whole : SmallEntries (tokenedBy (old me) me y m rest l)
         whole =
             alters-small (setEntry (old me) y (entryOf rest l)) (tokenedBy (old me) me y m rest l)
-            (alters-small (old me) (setEntry (old me) y (entryOf rest l)) entries y rest (tokened-entry (old me) y long (omega arith) rest l) (λ h. weak))
+            (alters-small (old me) (setEntry (old me) y (entryOf rest l)) entries y rest (entry-alters (old me) y long (omega arith) rest l) (λ h. weak))
             roomLimit m (tokened-held (old me) y long (omega arith) me m rest l) (λ h. absurd (omega arith))

@@ -36,9 +36,6 @@ module _ (r : Room) where
     pub want-weaker : (v : ℕ) → Weaker r (withModes r (r .held) v)
     want-weaker v = falls-owned r (withModes r (r .held) v) a (same-falls r (withModes r (r .held) v) (wanted-same r v))
 
-    pub self-loan-weaker : (h v : ℕ) → canLend (owned r) h ≡ true → Weaker r (withModes r h v)
-    self-loan-weaker h v can = loan-owned r (withModes r h v) a roomLimit h (modes-alters r h v) can
-
     pub credited-weaker : (m : ℕ) → Weaker r (credited r m)
     credited-weaker m = falls-owned r (credited r m) a (same-falls r (credited r m) (credited-same r m))
 

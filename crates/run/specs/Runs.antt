@@ -19,6 +19,7 @@ use Rattle.table.specs.Formed.{wellFormed}
 use Rattle.rules.specs.declared.Event.{Event}
 use Rattle.rules.specs.Events.{HANDBACK, DELIVER}
 use Rattle.rules.specs.Step.{stepOf, runs}
+use Rattle.bounds.specs.Bounds.{mostMessages}
 use Rattle.safe.specs.Reached.{Reached, Demand3}
 
 -- events in bytes, four for each: kind, room, other and mode; what is left at the end is no event
@@ -40,10 +41,6 @@ continued a events = if eqb (a .«number») DONE then answer DONE (runs (a .tabl
 -- the number given to the fresh table, and the table after all events
 unfoldable pub ranOf : ℕ → List Event → Answer
 ranOf n events = continued (freshOf n) events
-
--- MESSAGES: the 96 at which an ASK is refused, and five for each of 16 rooms
-abbrev pub mostMessages : ℕ
-mostMessages = 176
 
 -- What holds of a table that events lead to from a fresh one of n rooms.
 pub record Holds (n : ℕ) (t : Table) : Type 0 where

@@ -13,7 +13,7 @@ use Rattle.table.specs.declared.Message.{Message}
 use Rattle.table.specs.Numbers.{DONE}
 use Rattle.table.specs.Tables.{noWire, roomAt, messagesOf, queueOf, freshTable}
 use Rattle.table.specs.Oldest.{oldestOf}
-use Rattle.table.specs.Formed.{tokens, wellFormed}
+use Rattle.table.specs.Formed.{wellFormed}
 use Rattle.rules.specs.declared.Event.{Event}
 use Rattle.rules.specs.Events.{HANDBACK, DELIVER}
 use Rattle.rules.specs.Refusals.{first, refusals, refusal, isFound}
@@ -22,6 +22,7 @@ use Rattle.base.specs.Lists.{mem-at}
 use Rattle.facts.specs.Search.{oldest-low, oldest-there}
 use Rattle.kept.specs.Fresh.{fresh-has}
 use Rattle.tree.specs.Agreement.{agreement}
+use Rattle.bounds.specs.Bounds.{mostMessages}
 use Rattle.bounds.specs.Limits.{messages-most}
 use Rattle.safe.specs.Fresh.{fresh-safe}
 use Rattle.safe.specs.Reached.{Reached, Demand3}
@@ -40,28 +41,29 @@ module _ (n : ℕ) (t : Table) (r : Reached n t) where
   safe : Safe n t
   safe = reached-safe n t r
 
-  limit : t .n ≤ 16
+  limit : t .n ≤ roomLimit
   limit = omega (arith, safe .rooms, r .most)
 
   -- "there is always exactly one token, with one room or on one wire, and modes held by two rooms agree"
   pub demand3 : Demand3 n t
-  unfolding tokens
   demand3 =
       record {
         rooms = safe .rooms;
         one-token = rw (← safe .rooms) (omega (arith, safe .invariant .sound .token));
-        agree = rw (← safe .rooms)
-            (agreement (t .n) (roomAt t) (messagesOf t) limit (safe .invariant .sound .room) (safe .invariant .clauses .ledger) (safe .invariant .exact)
+        agree =
+            λ c d p q other.
+            agreement (t .n) (roomAt t) (messagesOf t) limit (safe .invariant .sound .room) (safe .invariant .clauses .ledger) (safe .invariant .exact)
             (safe .invariant .clauses .small) (safe .invariant .clauses .pairs) (safe .invariant .clauses .fits) (safe .invariant .clauses .tree)
-            (omega (arith, safe .invariant .sound .token)) (λ w i. safe .invariant .sound .right w i .facts .to-low));
+            (omega (arith, safe .invariant .sound .token)) (λ w i. safe .invariant .sound .right w i .facts .to-low)
+            c d (omega (arith, safe .rooms)) (omega (arith, safe .rooms)) (λ e. omega arith);
       }
 
   -- a reached table is well formed, so a step on it needs no test
   pub reached-formed : wellFormed t ≡ true
   reached-formed = safe .lawful .0
 
-  -- at most 176 messages
-  pub reached-few : t .count ≤ 176
+  -- its messages are few
+  pub reached-few : t .count ≤ mostMessages
   reached-few = omega (arith, messages-count n t safe, messages-most (t .n) limit (roomAt t) (queueOf t) (messagesOf t) 0 (safe .invariant .clauses .few))
 
   -- a delivery on a wire with a message is accepted

@@ -1,27 +1,32 @@
--- The room that acts holds or wants another mode: every clause at the room that does not wait.
+-- The room that acts holds or wants another mode, and did not wait before: what that leaves of the invariant.
 use mathlib.Core.Path.{_≡_, sym, _∙_, ap}
 use mathlib.Core.Logic.{_≢_}
 use mathlib.Core.Bool.{true, false}
 use mathlib.Core.List.{List, _++_}
 use Prim.Native.Nat.{ℕ, _≤_, _<_}
+use native.Mathlib.Omega.{arith}
 use Rattle.room.specs.declared.Room.{Room}
 use Rattle.room.specs.Limits.{roomLimit}
 use Rattle.room.specs.Record.{withModes}
 use Rattle.table.specs.declared.Wire.{Wire}
 use Rattle.table.specs.Formed.{names}
 use Rattle.rules.specs.Work.{Work}
+use Rattle.rules.specs.Rules.{hold}
 use Rattle.facts.specs.Rooms.{RoomFacts}
+use Rattle.facts.specs.Tokens.{holder-alone}
 use Rattle.kept.specs.Changed.{changed, changed-same, changed-elsewhere}
 use Rattle.kept.specs.Moment.{empty}
-use Rattle.kept.specs.Acts.{now}
-use Rattle.kept.specs.Turns.{sole-token}
+use Rattle.kept.specs.Acts.{Whole, now}
 use Rattle.kept.specs.Asks.{due-none}
-use Rattle.owning.specs.Clauses.{Agreeing}
+use Rattle.owning.specs.Clauses.{Exact, Agreeing, Pairs, Light, Served}
 use Rattle.owning.specs.Messages.{Unnamed, unnamed-of}
-use Rattle.owning.specs.Weaker.{Weaker, hand-back-weaker, want-weaker}
-use Rattle.owning.specs.PairsKept.{pairs-hand-back, pairs-want}
-use Rattle.owning.specs.Fits.{fits-weaker}
-use Rattle.owning.specs.Idle.{idle-weaker}
+use Rattle.owning.specs.Weaker.{Weaker, want-weaker}
+use Rattle.owning.specs.PairsKept.{pairs-want}
+use Rattle.owning.specs.Exact.{exact-token, exact-want}
+use Rattle.owning.specs.Fits.{fits-weaker, fits-unnamed}
+use Rattle.owning.specs.Idle.{idle-weaker, idle-unnamed}
+use Rattle.owning.specs.Light.{light-other}
+use Rattle.owning.specs.Served.{served-other}
 use Rattle.safe.specs.Invariant.{Clauses, Invariant}
 use Rattle.safe.specs.Moments.{unwaiting}
 use Rattle.safe.specs.Settling.{clauses-modes}
@@ -46,6 +51,10 @@ module _ (n : ℕ) (rooms : ℕ → Room) (kept : List Wire) (w : Work) (a : Don
   pub at-me : old (w .me) ≡ w .room
   at-me = changed-same rooms (w .me) (w .room)
 
+  -- what is so of the record is so of the room
+  pub at-room : (P : Room → Type 0) → P (w .room) → P (old (w .me))
+  at-room P p = rw at-me p
+
   pub facts : RoomFacts n (w .me) (w .room)
   facts = rw at-me at (inv .sound .room (w .me) low)
 
@@ -54,7 +63,7 @@ module _ (n : ℕ) (rooms : ℕ → Room) (kept : List Wire) (w : Work) (a : Don
 
   -- no other room has the token that the room has
   pub alone : w .room .token ≡ true → (c : ℕ) → c < n → c ≢ w .me → old c .token ≡ false
-  alone with c l e = sole-token n old (w .queue) all empty 0 (inv .sound) (w .me) c low l e (ap (λ (r : Room). r .token) at-me ∙ with)
+  alone with = holder-alone n old all (omega (arith, inv .sound .token)) (w .me) low (ap (λ (r : Room). r .token) at-me ∙ with)
 
   -- a room that wants nothing is named by nothing
   pub nobody-names : w .room .wanted ≡ 0 → names (w .queue) all (w .me) ≡ 0
@@ -78,42 +87,74 @@ module _ (n : ℕ) (rooms : ℕ → Room) (kept : List Wire) (w : Work) (a : Don
     alone-after with c l e = ap (λ (r : Room). r .token) (others c e) ∙ alone with c l e
 
   -- with another held and another wanted mode
-  pub modes-now : (h v : ℕ) → new (withModes (w .room) h v) (w .me) ≡ withModes (old (w .me)) h v
-  modes-now h v = here (withModes (w .room) h v) ∙ sym (ap (λ (r : Room). withModes r h v) at-me)
+  module _ (h v : ℕ) where
+    pub modes-now : new (withModes (w .room) h v) (w .me) ≡ withModes (old (w .me)) h v
+    modes-now = here (withModes (w .room) h v) ∙ sym (ap (λ (r : Room). withModes r h v) at-me)
 
-  pub wanting-now : (v : ℕ) → new (withModes (w .room) (w .room .held) v) (w .me) ≡ withModes (old (w .me)) (old (w .me) .held) v
-  wanting-now v = here (withModes (w .room) (w .room .held) v) ∙ sym (ap (λ (r : Room). withModes r (r .held) v) at-me)
+    pub token-now : new (withModes (w .room) h v) (w .me) .token ≡ w .room .token
+    token-now = ap (λ (r : Room). r .token) (here (withModes (w .room) h v))
 
-  -- it hands back what it holds
-  pub clauses-hand-back : Clauses n (new (withModes (w .room) 0 0)) (w .queue) all 0
-  clauses-hand-back =
-      clauses-modes n old after (w .queue) all (w .me) low limit (others handed) 0 (inv .clauses) 0 0 (modes-now 0 0)
-      (pairs-hand-back n old after all (w .me) low (others handed) (inv .clauses .pairs) 0 (modes-now 0 0))
-      (fits-weaker n old after all (w .me) low (others handed) (inv .clauses .fits) weaker)
-      (idle-weaker n old after all (w .me) low (others handed) (inv .clauses .idle) weaker)
-    where
-      handed : Room
-      handed = withModes (w .room) 0 0
+    pub wants-now : new (withModes (w .room) h v) (w .me) .wanted ≡ v
+    wants-now = ap (λ (r : Room). r .wanted) (here (withModes (w .room) h v))
 
-      after : ℕ → Room
-      after = new handed
+  -- it holds m from now on, and wants nothing
+  module _ (m : ℕ) where
+    abbrev pub holding : ℕ → Room
+    holding = new (withModes (w .room) m 0)
 
-      weaker : Weaker (old (w .me)) (after (w .me))
-      weaker = rw (at-me, here handed) (hand-back-weaker (w .room) agreeing 0)
+    pub still : (c : ℕ) → c ≢ w .me → holding c ≡ old c
+    still = others (withModes (w .room) m 0)
+
+    pub held-exact : w .room .token ≡ true → Exact n holding
+    held-exact with = exact-token n old holding (w .me) low still (inv .exact) (token-now m 0 ∙ with)
+
+    pub held-light : Light n holding (w .queue)
+    held-light = light-other n old holding (w .queue) (w .me) low still (inv .light) (λ e. omega (arith, wants-now m 0))
+
+    pub held-served : w .room .token ≡ false → Served n holding (w .queue)
+    held-served without = served-other n old holding (w .queue) (w .me) still (token-now m 0 ∙ without) (inv .served)
+
+    -- so it is named by nothing, and three clauses are left to be shown
+    pub held-done : w .room .wanted ≡ 0 → Whole n rooms kept (hold w m) → Pairs n holding all → Exact n holding → Served n holding (w .queue)
+        → Done n rooms kept (hold w m)
+    unfolding hold
+    held-done idle whole pairs exact served =
+        record {
+          whole = whole;
+          invariant =
+              record {
+                sound = whole .moment;
+                clauses =
+                    clauses-modes n old holding (w .queue) all (w .me) low limit still 0 (inv .clauses) m 0 (modes-now m 0) pairs
+                    (fits-unnamed n old holding all (w .me) low still (inv .clauses .fits) (unnamed idle))
+                    (idle-unnamed n old holding all (w .me) low still (inv .clauses .idle) (unnamed idle));
+                exact = exact;
+                light = held-light;
+                served = served;
+              };
+          unworn = a .unworn;
+        }
 
   -- it begins to want v, and holds what it held
-  pub clauses-want : (v hand : ℕ) → Clauses n old (w .queue) all hand → Clauses n (new (withModes (w .room) (w .room .held) v)) (w .queue) all hand
-  clauses-want v hand k =
-      clauses-modes n old after (w .queue) all (w .me) low limit (others wanting) hand k (w .room .held) v (modes-now (w .room .held) v)
-      (pairs-want n old after all (w .me) low (others wanting) (inv .clauses .pairs) v (wanting-now v))
-      (fits-weaker n old after all (w .me) low (others wanting) (inv .clauses .fits) weaker)
-      (idle-weaker n old after all (w .me) low (others wanting) (inv .clauses .idle) weaker)
-    where
-      wanting : Room
-      wanting = withModes (w .room) (w .room .held) v
+  module _ (v : ℕ) where
+    abbrev pub wanting : ℕ → Room
+    wanting = new (withModes (w .room) (w .room .held) v)
 
-      after : ℕ → Room
-      after = new wanting
+    pub same : (c : ℕ) → c ≢ w .me → wanting c ≡ old c
+    same = others (withModes (w .room) (w .room .held) v)
 
-      weaker : Weaker (old (w .me)) (after (w .me))
-      weaker = rw (at-me, here wanting) (want-weaker (w .room) agreeing v)
+    pub wanting-now : wanting (w .me) ≡ withModes (old (w .me)) (old (w .me) .held) v
+    wanting-now = here (withModes (w .room) (w .room .held) v) ∙ sym (ap (λ (r : Room). withModes r (r .held) v) at-me)
+
+    pub wanted-exact : Exact n wanting
+    wanted-exact = exact-want n old wanting (w .me) low same (inv .exact) v wanting-now
+
+    pub clauses-want : (hand : ℕ) → Clauses n old (w .queue) all hand → Clauses n wanting (w .queue) all hand
+    clauses-want hand k =
+        clauses-modes n old wanting (w .queue) all (w .me) low limit same hand k (w .room .held) v (modes-now (w .room .held) v)
+        (pairs-want n old wanting all (w .me) low same (inv .clauses .pairs) v wanting-now)
+        (fits-weaker n old wanting all (w .me) low same (inv .clauses .fits) weaker)
+        (idle-weaker n old wanting all (w .me) low same (inv .clauses .idle) weaker)
+      where
+        weaker : Weaker (old (w .me)) (wanting (w .me))
+        weaker = rw (at-me, here (withModes (w .room) (w .room .held) v)) (want-weaker (w .room) agreeing v)

@@ -1,21 +1,19 @@
 -- DELIVER keeps the invariant, whatever the message is.
 use mathlib.Core.Path.{_≡_, refl, sym, _∙_, ap, subst⁻¹}
 use mathlib.Core.Logic.{_≢_}
-use mathlib.Core.Bool.{Bool, true, false, _||_, false≢true}
-use mathlib.Core.List.{List, [], _∷_, _++_, append-nil}
+use mathlib.Core.Bool.{true, false}
+use mathlib.Core.List.{List, [], _++_, append-nil}
 use Prim.Native.Nat.{ℕ, _≤_, _<_}
 use native.Mathlib.Omega.{arith}
-use lib.Dec.{ltb, leb, eqb}
-use borrow.Author.Tests.{ltb-true, leb-true, eqb-true, eq-eqb, not-true}
-use Rattle.base.specs.Choice.{if_then_else_, by-test}
-use Rattle.base.specs.Tests.{and-left, and-right}
+use borrow.Author.Tests.{eq-eqb}
+use Rattle.base.specs.Choice.{by-test}
 use Rattle.base.specs.Sums.{one}
 use Rattle.base.specs.Lists.{Mem, remove, mem-at}
-use Rattle.modes.specs.Codes.{none, IR, R, IW}
-use Rattle.modes.specs.Under.{under, small}
+use Rattle.modes.specs.Codes.{IR}
+use Rattle.modes.specs.Under.{under}
 use Rattle.room.specs.declared.Room.{Room}
+use Rattle.room.specs.declared.Send.{Send}
 use Rattle.room.specs.declared.Send.the-variants as out
-use Rattle.room.specs.Limits.{nobody}
 use Rattle.room.specs.Record.{withModes, withDebt, setEntry, entryOf}
 use Rattle.room.specs.Owned.{owned}
 use Rattle.room.specs.Rules.{leaving, granted, tokened, tokenedBy, reduced}
@@ -24,10 +22,12 @@ use Rattle.table.specs.declared.Queued.{Queued}
 use Rattle.table.specs.declared.Message.{Message}
 use Rattle.table.specs.declared.Message.the-variants as msg
 use Rattle.table.specs.Tables.{noWire}
-use Rattle.table.specs.Formed.{due, isMode, messageFine, namesRightly, isToken, isNamedIn}
+use Rattle.table.specs.Formed.{isToken, isNamedIn}
 use Rattle.rules.specs.Work.{Work, withRoom, send, sendOut, change}
 use Rattle.rules.specs.Rules.{settle, serve, settleOrServe, receive}
-use Rattle.facts.specs.Wires.{wire, leavingSent}
+use Rattle.facts.specs.Messages.{GrantFacts, proper}
+use Rattle.facts.specs.Tokens.{gone-quiet}
+use Rattle.facts.specs.Wires.{wire, sentBy, leavingSent}
 use Rattle.facts.specs.Cases.{reduced-either}
 use Rattle.kept.specs.Changed.{changed, changed-same, changed-elsewhere}
 use Rattle.kept.specs.Moment.{Right, empty}
@@ -40,7 +40,7 @@ use Rattle.owning.specs.Exact.{exact-token, exact-grant, exact-arrived, but-red
 use Rattle.owning.specs.Light.{light-other, light-weaker, light-reduce}
 use Rattle.owning.specs.Served.{served-other}
 use Rattle.safe.specs.Invariant.{Clauses, Invariant}
-use Rattle.safe.specs.Moments.{in-hand, quiet-loose}
+use Rattle.safe.specs.Moments.{in-hand}
 use Rattle.safe.specs.Receiving.{clauses-grant, clauses-token, clauses-reduce}
 use Rattle.safe.specs.Done.{Done}
 use Rattle.safe.specs.Serve.{served}
@@ -53,22 +53,12 @@ sending me room queue sent = record { me = me; room = room; queue = queue; sent 
 
 pub left-work : (me : ℕ) (room r : Room) (queue : List Queued) (a : ℕ)
     → sendOut (taking me room queue) (leaving r a) ≡ sending me room queue (leavingSent me r a)
-unfolding leaving sendOut send leavingSent
-left-work me room r queue a = go (eqb (r .lender) nobody || eqb (r .lender) a)
+unfolding sendOut send leavingSent
+left-work me room r queue a = go (leaving r a)
   where
-    go : (b : Bool) → sendOut (taking me room queue) (if b then out.Nothing else out.Reduce (r .lender) (r .link) 0)
-        ≡ sending me room queue (if b then [] else wire me (r .lender) (msg.Reduce (r .link) 0) ∷ [])
-    go true = refl
-    go false = refl
-
--- the modes of a GRANT are small
-grant-small : (m : ℕ) → (eqb m IR || eqb m R || eqb m IW) ≡ true → small m ≡ true
-unfolding small
-grant-small m h = or-last (eqb m none) (eqb m IR) (eqb m R) (eqb m IW) h
-  where
-    or-last : (p q r s : Bool) → (q || r || s) ≡ true → (p || q || r || s) ≡ true
-    or-last true q r s h = refl
-    or-last false q r s h = h
+    go : (s : Send) → sendOut (taking me room queue) s ≡ sending me room queue (sentBy me s)
+    go out.Nothing = refl
+    go (out.Reduce y l m) = refl
 
 module _ (n : ℕ) (rooms : ℕ → Room) (messages : List Wire) (me : ℕ) (room : Room) (queue : List Queued)
     (inv : Invariant n (now rooms (taking me room queue)) queue messages) (k a : ℕ) where
@@ -105,10 +95,10 @@ module _ (n : ℕ) (rooms : ℕ → Room) (messages : List Wire) (me : ℕ) (roo
       (in-hand n old queue kept (only me) loose (rw (append-nil kept) at (taken .moment)) me low (omega (arith, ap one (eq-eqb me me refl))))
 
   -- "GRANT: .. Then lender a, the new link number, credit and held the mode, wanted none."
-  grant-safe : (m l : ℕ) → Oldest messages k a me (msg.Grant m l) → a < n → a ≢ me → small m ≡ true → room .token ≡ false
+  grant-safe : (m l : ℕ) → Oldest messages k a me (msg.Grant m l) → a < n → a ≢ me → GrantFacts (old me) m
       → At n rooms kept w (only me) 0 → Whole n rooms kept (receive w a (msg.Grant m l)) → Done n rooms kept (receive w a (msg.Grant m l))
   unfolding receive granted
-  grant-safe m l at from-low other weak without taken whole =
+  grant-safe m l at from-low other facts taken whole =
       subst⁻¹ (Done n rooms kept) (left-work me lending room queue a)
       (record {
         whole = there;
@@ -116,13 +106,13 @@ module _ (n : ℕ) (rooms : ℕ → Room) (messages : List Wire) (me : ℕ) (roo
             record {
               sound = there .moment;
               clauses =
-                  rw at-me at (clauses-grant n old (new lending) queue messages me low (taken .small) (others lending) (inv .sound .room me low) senders 0 (inv .clauses) k a
-                  from-low other m l at now-lent (unnamed 0 low taken) weak);
+                  rw at-me at (clauses-grant n old (new lending) queue messages me low (taken .small) (rw at-me (taken .long)) (others lending) (inv .sound .room me low) senders 0 (inv .clauses) k a
+                  from-low other m l at now-lent (unnamed 0 low taken) (facts .weak));
               exact =
                   exact-grant n old (new lending) me low (others lending) (inv .exact) a m l (inv .clauses .pairs .room me low)
-                  (inv .clauses .fits (wire a me (msg.Grant m l)) grant m l refl) weak now-lent;
+                  (inv .clauses .fits (wire a me (msg.Grant m l)) grant m l refl) (facts .weak) now-lent;
               light = light-other n old (new lending) queue me low (others lending) (inv .light) (λ e. omega (arith, ap (λ (r : Room). r .wanted) (here lending)));
-              served = served-other n old (new lending) queue me (others lending) (ap (λ (r : Room). r .token) (here lending) ∙ without) (inv .served);
+              served = served-other n old (new lending) queue me (others lending) (rw (here lending, ← at-me) (facts .without)) (inv .served);
             };
         unworn = refl;
       })
@@ -152,9 +142,9 @@ module _ (n : ℕ) (rooms : ℕ → Room) (messages : List Wire) (me : ℕ) (roo
       (record {
         whole = rw (left-work me rooted room queue a) at whole;
         clauses =
-            rw at-me at (clauses-token n old (new rooted) queue messages me low (taken .small) (others rooted) (inv .sound .room me low) senders 0 (inv .clauses) k a
+            rw at-me at (clauses-token n old (new rooted) queue messages me low (taken .small) (rw at-me (taken .long)) (others rooted) (inv .sound .room me low) senders 0 (inv .clauses) k a
             from-low other m rest l at now-rooted (unnamed 1 low taken)
-            (quiet-loose n old queue kept (only me) 1 (rw (append-nil kept) at (taken .moment)) (omega arith)));
+            (gone-quiet n old kept (omega (arith, rw (append-nil kept) at (taken .moment .token)))));
         exact = exact-arrived n old (new rooted) me low (others rooted) (inv .exact) a m rest l now-rooted;
         light = light-other n old (new rooted) queue me low (others rooted) (inv .light) (λ e. omega (arith, ap (λ (r : Room). r .wanted) (here rooted)));
         unworn = refl;
@@ -198,7 +188,7 @@ module _ (n : ℕ) (rooms : ℕ → Room) (messages : List Wire) (me : ℕ) (roo
     clauses : Clauses n (new lowered) queue (kept ++ []) 0
     clauses =
         rw (append-nil kept)
-        (clauses-reduce n old (new lowered) queue messages me low (taken .small) (others lowered) (inv .sound .room me low) senders 0 (inv .clauses) k a from-low other l m at
+        (clauses-reduce n old (new lowered) queue messages me low (taken .small) (rw at-me (taken .long)) (others lowered) (inv .sound .room me low) senders 0 (inv .clauses) k a from-low other l m at
         now-lowered)
 
     pub reduced-owing : lowered .token ≡ false → Owing n rooms kept (withRoom w lowered)
@@ -208,7 +198,7 @@ module _ (n : ℕ) (rooms : ℕ → Room) (messages : List Wire) (me : ℕ) (roo
           clauses = clauses;
           exact =
               but-reduce n old (new lowered) me low (others lowered) (inv .exact) (inv .sound .room me low) (before without) (inv .clauses .pairs .room me low)
-              (λ j b. inv .clauses .small .entry me j low b) (inv .clauses .long me low) a (omega (arith, taken .small)) l m weak now-lowered;
+              (λ j b. inv .clauses .small .entry me j low b) (rw at-me (taken .long)) a (omega (arith, taken .small)) l m weak now-lowered;
           light = light-weaker n old (new lowered) queue me low (others lowered) (inv .light) (before without) (same (λ r. r .wanted) refl refl) weaker;
           served = served-other n old (new lowered) queue me (others lowered) (ap (λ (r : Room). r .token) (here lowered) ∙ without) (inv .served);
           unworn = refl;
@@ -233,24 +223,15 @@ module _ (n : ℕ) (rooms : ℕ → Room) (messages : List Wire) (me : ℕ) (roo
 
   pub receive-safe : (m : Message) → Oldest messages k a me m → Right n old (wire a me m)
       → At n rooms kept w (λ c. one (isNamedIn c me m)) (one (isToken m)) → Done n rooms kept (receive w a m)
-  unfolding receive isNamedIn isToken messageFine namesRightly
-  receive-safe msg.Nothing at r t = absurd (false≢true (r .facts .fine))
+  unfolding receive isNamedIn isToken
+  receive-safe msg.Nothing at r t = absurd (proper (r .facts))
   receive-safe (msg.Request o m idle) at r t =
-      request-safe n rooms messages me room queue inv k a o m idle at (ltb-true o n (and-left _ _ (r .facts .fine)))
-      (leb-true _ _ (and-left _ _ (and-right (ltb o n) (isMode m) (r .facts .fine))))
-      (leb-true _ _ (and-right (leb IR m) _ (and-right (ltb o n) (isMode m) (r .facts .fine))))
-      (eqb-true _ _ (r .facts .rightly)) (r .unowned o m idle refl) t
+      request-safe n rooms messages me room queue inv k a o m idle at (proper (r .facts)) (r .unowned o m idle refl) t
   receive-safe (msg.Grant m l) at r t =
-      grant-safe m l at (r .facts .from-low) (r .facts .apart) (grant-small m (r .facts .fine))
-      (ap (λ (r : Room). r .token) (sym at-me) ∙ not-true _ (and-right (eqb (due (old me)) m) _ (r .facts .rightly))) t
-      (receive-kept n rooms kept w a (msg.Grant m l) r t)
+      grant-safe m l at (r .facts .from-low) (r .facts .apart) (proper (r .facts)) t (receive-kept n rooms kept w a (msg.Grant m l) r t)
   receive-safe (msg.Token m rest l) at r t =
       token-safe m rest l at (r .facts .from-low) (r .facts .apart) t
-      (arrived-kept n rooms kept w a (r .facts .from-low) (r .facts .apart) m rest l
-      (leb-true _ _ (and-left _ _ (and-left (isMode m) _ (r .facts .fine))))
-      (leb-true _ _ (and-right (leb IR m) _ (and-left (isMode m) _ (r .facts .fine))))
-      (leb-true _ _ (and-right (isMode m) _ (r .facts .fine)))
-      (eqb-true _ _ (r .facts .rightly)) t)
+      (arrived-kept n rooms kept w a (r .facts .from-low) (r .facts .apart) m rest l (proper (r .facts)) t)
   receive-safe (msg.Reduce l m) at r t =
       reduce-safe l m at (r .facts .from-low) (r .facts .apart) t
-      (reduced-kept n rooms kept w a (r .facts .from-low) (r .facts .apart) l m (leb-true _ _ (r .facts .fine)) t)
+      (reduced-kept n rooms kept w a (r .facts .from-low) (r .facts .apart) l m (proper (r .facts)) t)

@@ -5,31 +5,29 @@ use mathlib.Core.Bool.{false}
 use mathlib.Core.List.{[], List·Memᴰ·not-nil}
 use Prim.Native.Nat.{ℕ, _≤_, _<_}
 use native.Mathlib.Omega.{arith}
-use lib.Dec.{ltb, eqb}
-use lib.ListN.{length, replicate, getD-replicate}
+use lib.Dec.{ltb}
+use lib.ListN.{replicate, getD-replicate}
 use borrow.Author.Tests.{ltb-true}
 use Rattle.base.specs.Choice.{by-test}
 use Rattle.base.specs.Tests.{clash}
-use Rattle.base.specs.Below.{all-of}
 use Rattle.base.specs.Folds.{folds}
-use Rattle.modes.specs.Modes.{agrees}
-use Rattle.modes.specs.Under.{small}
+use Rattle.modes.specs.Codes.{none}
+use Rattle.modes.proofs.Laws.{none-agrees, low-small}
 use Rattle.room.specs.declared.Room.{Room}
 use Rattle.room.specs.declared.Entry.{Entry}
 use Rattle.room.specs.Limits.{roomLimit, nobody}
 use Rattle.room.specs.Record.{noEntry, entryAt}
-use Rattle.room.specs.Owned.{owned, hasNoEntries}
+use Rattle.room.specs.Owned.{owned}
+use Rattle.room.proofs.Owning.{owned-none, no-entries-of}
 use Rattle.table.specs.Tables.{roomAt, queueOf, messagesOf, freshTable}
 use Rattle.rules.specs.Rules.{upgradeWaits}
 use Rattle.facts.specs.Whole.{facts-of}
 use Rattle.kept.specs.Start.{sound}
 use Rattle.kept.specs.Fresh.{room-each, fresh-has}
-use Rattle.ledger.specs.Loans.{debt}
 use Rattle.ledger.specs.Debts.{debt-none}
 use Rattle.ledger.specs.Senders.{sender-none}
 use Rattle.owning.specs.Parts.{part}
 use Rattle.owning.specs.Clauses.{Agreeing}
-use Rattle.owning.specs.Owned.{owned-none}
 use Rattle.bounds.specs.Limits.{messages-fresh, counters-fresh}
 use Rattle.safe.specs.Invariant.{Clauses, Invariant}
 
@@ -63,22 +61,19 @@ module _ (n : ℕ) (some : 1 ≤ n) (most : n ≤ roomLimit) where
       (λ b. ap (λ (e : Entry). e .mode) (no-entry c i l (ltb-true i roomLimit b))) (λ b. blank c l .held)
 
   owns-nothing : (c : ℕ) → c < n → owned (rooms c) ≡ 0
-  unfolding hasNoEntries
   owns-nothing c l =
-      owned-none (rooms c) (blank c l .held) (all-of roomLimit (λ j. eqb (entryAt (rooms c) j .mode) 0) (λ j h. rw (no-entry c j l h) refl))
+      owned-none (rooms c) (blank c l .held) (no-entries-of (rooms c) (λ j h. ap (λ (e : Entry). e .mode) (no-entry c j l h)))
 
   agreeing : (c : ℕ) → c < n → Agreeing (rooms c)
-  unfolding agrees
-  agreeing c l i j a b e = rw (no-part c i l, no-part c j l) refl
+  agreeing c l i j a b e = rw (no-part c i l, no-part c j l) (none-agrees none (omega arith))
 
   no-lender : (p c : ℕ) → p < n → c < n → rooms c .lender ≢ p
   no-lender p c lp l e = omega (arith, blank c l .lender)
 
   clauses : Clauses n rooms [] [] 0
-  unfolding folds small
+  unfolding folds
   clauses =
       record {
-        long = λ c l. ap length (blank c l .entries);
         ledger = λ p c lp lc e. no-entry p c lp (omega arith) ∙ sym (debt-none (rooms c) p (no-lender p c lp lc));
         links =
             record {
@@ -90,7 +85,7 @@ module _ (n : ℕ) (some : 1 ≤ n) (most : n ≤ roomLimit) where
         sender = sender-none rooms [] (λ w i. absurd (List·Memᴰ·not-nil i));
         small =
             record {
-              entry = λ c j l h. rw (no-entry c j l h) refl;
+              entry = λ c j l h. rw (no-entry c j l h) (low-small none (omega arith));
               rest = λ w i. absurd (List·Memᴰ·not-nil i);
               new = λ w i. absurd (List·Memᴰ·not-nil i);
             };

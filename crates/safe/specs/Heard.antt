@@ -6,16 +6,16 @@ use mathlib.Core.List.{List, [], _∷_, _++_, append-nil}
 use Prim.Native.Nat.{ℕ, _≤_, _<_}
 use native.Mathlib.Omega.{arith}
 use lib.Dec.{ltb, eqb}
+use lib.ListN.{length}
 use borrow.Author.Tests.{eq-eqb, eqb-false, not-true}
 use Rattle.base.specs.Choice.{by-test, split}
 use Rattle.base.specs.Tests.{and-left, and-right, clash}
 use Rattle.base.specs.Sums.{one, one-le}
 use Rattle.base.specs.Lists.{Mem, count, remove, mem-remove, mem-at}
-use Rattle.modes.specs.Codes.{W}
 use Rattle.modes.specs.Modes.{canLend}
 use Rattle.modes.proofs.Laws.{none-under}
 use Rattle.room.specs.declared.Room.{Room}
-use Rattle.room.specs.Limits.{nobody}
+use Rattle.room.specs.Limits.{roomLimit, nobody}
 use Rattle.room.specs.Owned.{owned}
 use Rattle.room.specs.Rules.{nextLink, isWorn, lent, lentTo}
 use Rattle.table.specs.declared.Wire.{Wire}
@@ -27,7 +27,7 @@ use Rattle.table.specs.Oldest.{between}
 use Rattle.table.specs.Formed.{due, isToken, isNamedIn, names}
 use Rattle.rules.specs.Work.{Work, send, join}
 use Rattle.rules.specs.Rules.{lend, settle, serve, takeRequest}
-use Rattle.facts.specs.Moments.{MessageFacts}
+use Rattle.facts.specs.Moments.{QueuedFacts, MessageFacts}
 use Rattle.facts.specs.Wires.{wire}
 use Rattle.kept.specs.Changed.{changed, changed-same, changed-elsewhere}
 use Rattle.kept.specs.Moment.{empty}
@@ -69,9 +69,8 @@ taking me room queue = record { me = me; room = room; queue = queue; sent = []; 
 
 module _ (n : ℕ) (rooms : ℕ → Room) (messages : List Wire) (me : ℕ) (room : Room) (queue : List Queued)
     (inv : Invariant n (now rooms (taking me room queue)) queue messages) (k a o m : ℕ) (idle : Bool)
-    (at : Oldest messages k a me (msg.Request o m idle)) (near : o < n) (some : 1 ≤ m) (code : m ≤ W)
-    (waits : due (now rooms (taking me room queue) o) ≡ m) (tokenless : now rooms (taking me room queue) o .token ≡ false)
-    (taken : At n rooms (remove k messages) (taking me room queue) (only o) 0) where
+    (at : Oldest messages k a me (msg.Request o m idle)) (named : QueuedFacts n (now rooms (taking me room queue)) (record { room = o; mode = m }))
+    (tokenless : now rooms (taking me room queue) o .token ≡ false) (taken : At n rooms (remove k messages) (taking me room queue) (only o) 0) where
   abbrev w : Work
   w = taking me room queue
 
@@ -84,8 +83,14 @@ module _ (n : ℕ) (rooms : ℕ → Room) (messages : List Wire) (me : ℕ) (roo
   low : me < n
   low = taken .low
 
+  near : o < n
+  near = named .low
+
   at-me : old me ≡ room
   at-me = changed-same rooms me room
+
+  long : length (old me .entries) ≡ roomLimit
+  long = rw at-me (taken .long)
 
   clauses : Clauses n old queue kept 1
   clauses = clauses-heard n old queue messages 0 k a me o m idle (inv .clauses) at
@@ -104,8 +109,7 @@ module _ (n : ℕ) (rooms : ℕ → Room) (messages : List Wire) (me : ℕ) (roo
   joined with =
       served n rooms kept (join w o m) with
       (record {
-        whole =
-            put-joined n rooms kept w (only o) 0 taken o m empty (record { low = near; some = some; code = code; waits = waits }) (λ c l. omega arith);
+        whole = put-joined n rooms kept w (only o) 0 taken o m empty named (λ c l. omega arith);
         clauses = rw (append-nil kept) (clauses-joined n old queue kept 0 (record { room = o; mode = m }) clauses);
         exact = inv .exact;
         light = light-join n old queue (record { room = o; mode = m }) (inv .light);
@@ -141,18 +145,18 @@ module _ (n : ℕ) (rooms : ℕ → Room) (messages : List Wire) (me : ℕ) (roo
       whole : Whole n rooms kept (send w (room .toward) (msg.Request o m idle))
       whole =
           let facts = rw at-me at (inv .sound .room me low) in
-          put-request n rooms kept w (room .toward) (facts .toward-low) (λ e. clash (facts .toward-token e) without) o m idle near some code waits tokenless taken
+          put-request n rooms kept w (room .toward) (facts .toward-low) (λ e. clash (facts .toward-token e) without) o m idle named tokenless taken
 
   -- "if the origin owned nothing, isn't b, and owned of b can lend the mode, b lends, then settles"
   pub lent-owing : room .token ≡ false → idle ≡ true → o ≢ me → canLend (owned room) m ≡ true → Owing n rooms kept (lend w o m)
   unfolding lend send lent lentTo names
   lent-owing without says other can =
       record {
-        whole = lend-kept n rooms kept w o m near other can waits tokenless taken;
+        whole = lend-kept n rooms kept w o m near other can (named .waits) tokenless taken;
         clauses = rw at-me at after-clauses;
         exact =
             but-lend n old new me low others (inv .exact) (inv .sound .room me low) (rw at-me without) (inv .clauses .pairs .room me low)
-            (λ j l. inv .clauses .small .entry me j low l) (inv .clauses .long me low) o (omega (arith, taken .small)) m (rw at-me can) now-lent;
+            (λ j l. inv .clauses .small .entry me j low l) long o (omega (arith, taken .small)) m (rw at-me can) now-lent;
         light =
             light-weaker n old new queue me low others (inv .light) (rw at-me without)
             (ap (λ (r : Room). r .wanted) here ∙ sym (ap (λ (r : Room). r .wanted) at-me))
@@ -208,7 +212,7 @@ module _ (n : ℕ) (rooms : ℕ → Room) (messages : List Wire) (me : ℕ) (roo
 
       after-clauses : Clauses n new queue (kept ++ (wire me o (msg.Grant m (nextLink (old me .counter))) ∷ [])) 0
       after-clauses =
-          clauses-lend n old new queue kept me low (taken .small) others 0 clauses o m near other now-lent (rw at-me can) (rw owns (none-under m)) quiet tree
+          clauses-lend n old new queue kept me low (taken .small) long others 0 clauses o m near other now-lent (rw at-me can) (rw owns (none-under m)) quiet tree
 
   lends : room .token ≡ false → idle ≡ true → o ≢ me → canLend (owned room) m ≡ true → Done n rooms kept (settle (lend w o m))
   unfolding lend send lent lentTo

@@ -1,10 +1,7 @@
--- The invariant: what holds of every table that events lead to from a fresh one, and of every moment inside a step.
-use mathlib.Core.Path.{_≡_}
+-- The invariant: what holds of every table that events lead to from a fresh one. Its clauses that hold inside a step too are `Clauses`.
 use mathlib.Core.List.{List}
-use Prim.Native.Nat.{ℕ, _<_}
-use lib.ListN.{length}
+use Prim.Native.Nat.{ℕ}
 use Rattle.room.specs.declared.Room.{Room}
-use Rattle.room.specs.Limits.{roomLimit}
 use Rattle.table.specs.declared.Wire.{Wire}
 use Rattle.table.specs.declared.Queued.{Queued}
 use Rattle.kept.specs.Moment.{Sound}
@@ -16,8 +13,6 @@ use Rattle.bounds.specs.Bounds.{Messages, Counters}
 
 -- The clauses that hold at every moment, with so many names in hand.
 pub record Clauses (n : ℕ) (rooms : ℕ → Room) (queue : List Queued) (messages : List Wire) (hand : ℕ) : Type 0 where
-  -- each room has a place for an entry of every room
-  pub long : (c : ℕ) → c < n → length (rooms c .entries) ≡ roomLimit
   -- LEDGER: what a room is owed and what the other owes are the same, once all is delivered
   pub ledger : Ledger n rooms messages
   -- LINKS: which link numbers there can be
@@ -42,6 +37,7 @@ pub record Clauses (n : ℕ) (rooms : ℕ → Room) (queue : List Queued) (messa
 pub record Invariant (n : ℕ) (rooms : ℕ → Room) (queue : List Queued) (messages : List Wire) : Type 0 where
   -- WF+: well formed, and no REQUEST was begun by the room with the token
   pub sound : Sound n rooms queue messages
+  -- what holds inside a step too, with no name in hand
   pub clauses : Clauses n rooms queue messages 0
   -- EXACT: a room without the token owes exactly what it owns
   pub exact : Exact n rooms

@@ -1,18 +1,17 @@
 -- Every clause is kept where a room lends.
-use mathlib.Core.Path.{_≡_, refl, _∙_, ap}
+use mathlib.Core.Path.{_≡_, refl, ap}
 use mathlib.Core.Logic.{_≢_}
 use mathlib.Core.Bool.{true, false}
 use mathlib.Core.List.{List, [], _∷_, _++_}
 use Prim.Native.Nat.{ℕ, _+_, _≤_, _<_}
 use native.Mathlib.Omega.{arith}
-use lib.ListN.{length, length-set}
+use lib.ListN.{length}
 use Rattle.base.specs.Lists.{Mem}
 use Rattle.modes.specs.Modes.{canLend}
 use Rattle.modes.specs.Under.{under}
 use Rattle.modes.proofs.Laws.{lends-some}
 use Rattle.room.specs.declared.Room.{Room}
 use Rattle.room.specs.Limits.{roomLimit}
-use Rattle.room.specs.Record.{entryOf}
 use Rattle.room.specs.Owned.{owned}
 use Rattle.room.specs.Rules.{nextLink, lentTo}
 use Rattle.table.specs.declared.Wire.{Wire}
@@ -37,13 +36,8 @@ use Rattle.bounds.specs.Counters.{counters-lend}
 use Rattle.bounds.specs.Limits.{next-link}
 use Rattle.safe.specs.Invariant.{Clauses}
 
--- entries as many as they were, in the changed record and so in all
-pub long-kept : (n : ℕ) (old new : ℕ → Room) (me : ℕ) → ((c : ℕ) → c ≢ me → new c ≡ old c) → length (new me .entries) ≡ length (old me .entries)
-    → ((c : ℕ) → c < n → length (old c .entries) ≡ roomLimit) → (c : ℕ) → c < n → length (new c .entries) ≡ roomLimit
-long-kept n old new me others here long c l = alike old new me others (λ r. length (r .entries)) here c ∙ long c l
-
 module _ (n : ℕ) (old new : ℕ → Room) (queue : List Queued) (messages : List Wire) (me : ℕ) (low : me < n) (limit : n ≤ roomLimit)
-    (others : (c : ℕ) → c ≢ me → new c ≡ old c) (hand : ℕ) (k : Clauses n old queue messages (hand + 1)) (y m : ℕ) (near : y < n) (other : y ≢ me)
+    (long : length (old me .entries) ≡ roomLimit) (others : (c : ℕ) → c ≢ me → new c ≡ old c) (hand : ℕ) (k : Clauses n old queue messages (hand + 1)) (y m : ℕ) (near : y < n) (other : y ≢ me)
     (here : new me ≡ lentTo (old me) y m) (can : canLend (owned (old me)) m ≡ true) (fit : under (owned (old y)) m ≡ true)
     (none : (w : Wire) → Mem w messages → between y me w ≡ true → isToken (w .message) ≡ false) where
   abbrev link : ℕ
@@ -68,18 +62,17 @@ module _ (n : ℕ) (old new : ℕ → Room) (queue : List Queued) (messages : Li
   unfolding lentTo isToken
   clauses-lend tree =
       record {
-        long = long-kept n old new me others (ap (λ (r : Room). length (r .entries)) here ∙ length-set (old me .entries) y (entryOf m link)) (k .long);
         ledger =
-            ledger-lend n old new messages me others (k .ledger) y m here other (lends-some (owned (old me)) m can) (omega (arith, k .long me low)) above none;
+            ledger-lend n old new messages me others (k .ledger) y m here other (lends-some (owned (old me)) m can) (omega (arith, long)) above none;
         links = links-lend n old new messages me others (k .links) y m here (omega (arith, counted)) near low other none;
         sender =
             sender-sent old new messages (k .sender) (alike old new me others (λ r. r .toward) (rw here refl))
             (counters-kept n old new messages me others (k .links) (omega (arith, counted, ap (λ (r : Room). r .counter) here)))
             grant refl (λ w i j rest l e o h idle q. absurd (omega (arith, ap kind q)));
-        small = small-lend n old new messages me low others (k .small) limit (k .long me low) y near m link can here;
-        pairs = pairs-lend n old new messages me low others (k .pairs) limit (k .long me low) y near m link can here;
-        fits = fits-lend n old new messages me low others (k .fits) (k .pairs .room me low) limit (k .long me low) y near m link other can fit here;
-        idle = idle-lend n old new messages me low others (k .idle) (k .pairs .room me low) limit (k .long me low) y near m link can here;
+        small = small-lend n old new messages me low others (k .small) limit long y near m link can here;
+        pairs = pairs-lend n old new messages me low others (k .pairs) limit long y near m link can here;
+        fits = fits-lend n old new messages me low others (k .fits) (k .pairs .room me low) limit long y near m link other can fit here;
+        idle = idle-lend n old new messages me low others (k .idle) (k .pairs .room me low) limit long y near m link can here;
         tree = tree;
         few = messages-lend n old new messages me low others queue hand y m here (k .few);
         counters = counters-lend n old new messages me low others queue hand y m here (k .counters);

@@ -11,6 +11,8 @@ pub mod Serve
 pub mod Settle
 pub mod Begins
 pub mod Asks
+pub mod Upgrades
+pub mod HandBacks
 pub mod Heard
 pub mod Delivers
 pub mod Fresh

@@ -1,20 +1,19 @@
--- What a moment says of single messages: who names whom, and where the token is.
+-- What a moment says of single rooms and messages: who names whom, and what does not go to the room with the token.
 use mathlib.Core.Path.{_≡_, _∙_, ap}
-use mathlib.Core.Bool.{Bool, true, false}
+use mathlib.Core.Bool.{Bool, true}
 use mathlib.Core.List.{List}
 use Prim.Native.Nat.{ℕ, _≤_, _<_}
 use native.Mathlib.Omega.{arith}
-use lib.Dec.{ltb, eqb}
-use borrow.Author.Tests.{eqb-true, not-true}
-use Rattle.base.specs.Choice.{split}
-use Rattle.base.specs.Tests.{clash, and-left, and-right}
-use Rattle.base.specs.Sums.{one, one-le, sum-at}
-use Rattle.base.specs.Lists.{Mem, mem-total}
+use lib.Dec.{ltb}
+use Rattle.base.specs.Tests.{clash}
+use Rattle.base.specs.Sums.{one, one-le}
+use Rattle.base.specs.Lists.{Mem}
 use Rattle.room.specs.declared.Room.{Room}
 use Rattle.table.specs.declared.Wire.{Wire}
 use Rattle.table.specs.declared.Queued.{Queued}
 use Rattle.table.specs.declared.Message.the-variants as msg
-use Rattle.table.specs.Formed.{due, tokens, isToken, names, namesRightly}
+use Rattle.table.specs.Formed.{due, names}
+use Rattle.facts.specs.Messages.{GrantFacts, proper}
 use Rattle.kept.specs.Moment.{Moment}
 
 module _ (n : ℕ) (rooms : ℕ → Room) (queue : List Queued) (messages : List Wire) (hand : ℕ → ℕ) (loose : ℕ)
@@ -27,54 +26,11 @@ module _ (n : ℕ) (rooms : ℕ → Room) (queue : List Queued) (messages : List
   pub unwaiting : (y : ℕ) → y < n → due (rooms y) ≡ 0 → names queue messages y ≡ 0
   unwaiting y l h = omega (arith, s .named y l, ap (λ (m : ℕ). one (ltb 0 m)) h)
 
-  -- while a room has the token, or it is in hand, no TOKEN is under way
-  pub quiet : (x : ℕ) → x < n → rooms x .token ≡ true → (w : Wire) → Mem w messages → isToken (w .message) ≡ false
-  unfolding tokens
-  quiet x l t w m =
-      split (isToken (w .message))
-      (λ e. absurd (omega (
-        arith,
-        s .token,
-        sum-at n (λ c. one (rooms c .token)) x l,
-        ap one t,
-        mem-total (λ w. one (isToken (w .message))) m,
-        ap one e,
-      )))
-      (λ e. e)
-
-  pub quiet-loose : 1 ≤ loose → (w : Wire) → Mem w messages → isToken (w .message) ≡ false
-  unfolding tokens
-  quiet-loose h w m =
-      split (isToken (w .message))
-      (λ e. absurd (omega (arith, s .token, mem-total (λ w. one (isToken (w .message))) m, ap one e)))
-      (λ e. e)
-
-  -- while a TOKEN is under way, or in hand, no room has the token
-  pub tokenless : (w : Wire) → Mem w messages → isToken (w .message) ≡ true → (x : ℕ) → x < n → rooms x .token ≡ false
-  tokenless w m e x l = split (rooms x .token) (λ t. clash e (quiet x l t w m)) (λ t. t)
-
-  pub tokenless-loose : 1 ≤ loose → (x : ℕ) → x < n → rooms x .token ≡ false
-  unfolding tokens
-  tokenless-loose h x l =
-      split (rooms x .token)
-      (λ e. absurd (omega (arith, s .token, sum-at n (λ c. one (rooms c .token)) x l, ap one e)))
-      (λ e. e)
-
   -- no GRANT is under way to the room with the token
   pub ungranted : (x : ℕ) → rooms x .token ≡ true → (w : Wire) → Mem w messages → w .to ≡ x → (m l : ℕ) → w .message ≡ msg.Grant m l → ⊥
-  unfolding namesRightly
   ungranted x t w i to m l e =
-      clash (ap (λ (c : ℕ). rooms c .token) to ∙ t)
-      (not-true _ (and-right (eqb (due (rooms (w .to))) m) _ (rw e at (s .right w i .facts .rightly))))
-
-  -- a room to which a TOKEN or a GRANT is under way waits for its mode
-  pub token-waits : (w : Wire) → Mem w messages → (m rest l : ℕ) → w .message ≡ msg.Token m rest l → due (rooms (w .to)) ≡ m
-  unfolding namesRightly
-  token-waits w i m rest l e = eqb-true _ _ (rw e at (s .right w i .facts .rightly))
-
-  pub grant-waits : (w : Wire) → Mem w messages → (m l : ℕ) → w .message ≡ msg.Grant m l → due (rooms (w .to)) ≡ m
-  unfolding namesRightly
-  grant-waits w i m l e = eqb-true _ _ (and-left _ _ (rw e at (s .right w i .facts .rightly)))
+      let grant : GrantFacts (rooms (w .to)) m = rw e at (proper (s .right w i .facts)) in
+      clash (ap (λ (c : ℕ). rooms c .token) to ∙ t) (grant .without)
 
   -- no REQUEST was begun by the room with the token
   pub unasked : (x : ℕ) → rooms x .token ≡ true → (w : Wire) → Mem w messages → (m : ℕ) (idle : Bool) → w .message ≡ msg.Request x m idle → ⊥

@@ -32,7 +32,6 @@ pub recounted : (n : ℕ) (rooms : ℕ → Room) (messages : List Wire) (queue a
     → Messages n rooms after messages left → Counters n rooms after messages left → Clauses n rooms after messages left
 recounted n rooms messages queue after hand left k few counters =
     record {
-      long = k .long;
       ledger = k .ledger;
       links = k .links;
       sender = k .sender;
@@ -54,7 +53,6 @@ module _ (n : ℕ) (rooms : ℕ → Room) (queue : List Queued) (messages : List
   unfolding isToken
   clauses-asked x y o m idle k owns along =
       record {
-        long = k .long;
         ledger = ledger-ask n rooms messages (k .ledger) o m idle x y;
         links = links-ask n rooms messages (k .links) x y o m idle;
         sender =
@@ -75,7 +73,6 @@ module _ (n : ℕ) (rooms : ℕ → Room) (queue : List Queued) (messages : List
   unfolding isToken
   clauses-heard j x y o m idle k at =
       record {
-        long = k .long;
         ledger = ledger-heard n rooms messages (k .ledger) o m idle j x y at;
         links = links-taken n rooms rooms messages y (λ c d. refl) (k .links) j x (msg.Request o m idle) at refl refl refl refl;
         sender = sender-taken rooms rooms messages (k .sender) (λ c. refl) (λ c. omega arith) j (at .low);

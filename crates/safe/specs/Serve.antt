@@ -20,10 +20,10 @@ use Rattle.table.specs.declared.Queued.{Queued}
 use Rattle.table.specs.Formed.{due}
 use Rattle.rules.specs.Work.{Work, withQueue, send}
 use Rattle.rules.specs.Rules.{hold, lend, pass, upgradeWaits, upgraded, serveQueue, serve}
+use Rattle.facts.specs.Tokens.{holder-alone}
 use Rattle.kept.specs.Changed.{changed, changed-same, changed-other, changed-elsewhere}
 use Rattle.kept.specs.Moment.{empty}
 use Rattle.kept.specs.Acts.{now}
-use Rattle.kept.specs.Turns.{sole-token}
 use Rattle.kept.specs.Serve.{upgraded-kept, upgraded-token}
 use Rattle.owning.specs.Messages.{Unnamed, unnamed-of}
 use Rattle.owning.specs.PairsKept.{pairs-upgrade}
@@ -146,7 +146,7 @@ module _ (n : ℕ) (rooms : ℕ → Room) (kept : List Wire) where
     alone c l e =
         let other : c ≢ me = λ z. e (z ∙ sym (serve-me w)) in
         ap (λ (r : Room). r .token) (changed-other rooms (serve w .me) (serve w .room) c e ∙ sym (changed-other rooms me (w .room) c other))
-        ∙ sole-token n old (w .queue) (kept ++ w .sent) empty 0 (a .whole .moment) me c (a .whole .low) l other (ap (λ (r : Room). r .token) own ∙ with)
+        ∙ holder-alone n old (kept ++ w .sent) (omega (arith, a .whole .moment .token)) me (a .whole .low) (ap (λ (r : Room). r .token) own ∙ with) c l other
 
     pub served : Done n rooms kept (serve w)
     served =

@@ -5,9 +5,6 @@ use mathlib.Core.Bool.{true}
 use mathlib.Core.List.{List, [], _∷_, _++_}
 use Prim.Native.Nat.{ℕ, _≤_, _<_}
 use native.Mathlib.Omega.{arith}
-use lib.Dec.{eqb}
-use lib.ListN.{length}
-use Rattle.base.specs.Choice.{by-test}
 use Rattle.base.specs.Lists.{Mem}
 use Rattle.modes.specs.Codes.{IR}
 use Rattle.modes.specs.Modes.{isStronger}
@@ -23,6 +20,7 @@ use Rattle.table.specs.declared.Message.the-variants as msg
 use Rattle.table.specs.Formed.{isToken}
 use Rattle.facts.specs.Rooms.{RoomFacts}
 use Rattle.facts.specs.Wires.{wire}
+use Rattle.facts.specs.Cases.{credited-either}
 use Rattle.ledger.specs.Frames.{alike}
 use Rattle.ledger.specs.Lends.{ledger-pay}
 use Rattle.ledger.specs.Calm.{ledger-modes}
@@ -39,7 +37,6 @@ use Rattle.tree.specs.Kept.{modes-tree, settle-tree}
 use Rattle.bounds.specs.Messages.{messages-modes, messages-settle}
 use Rattle.bounds.specs.Counters.{counters-modes, counters-settle}
 use Rattle.safe.specs.Invariant.{Clauses}
-use Rattle.safe.specs.Lending.{long-kept}
 
 module _ (n : ℕ) (old new : ℕ → Room) (queue : List Queued) (messages : List Wire) (me : ℕ) (low : me < n) (limit : n ≤ roomLimit)
     (others : (c : ℕ) → c ≢ me → new c ≡ old c) (hand : ℕ) (k : Clauses n old queue messages hand) where
@@ -48,7 +45,6 @@ module _ (n : ℕ) (old new : ℕ → Room) (queue : List Queued) (messages : Li
       → Clauses n new queue messages hand
   clauses-modes h v here pairs fits idle =
       record {
-        long = long-kept n old new me others (ap (λ (r : Room). length (r .entries)) here) (k .long);
         ledger = ledger-modes n old new messages me h v others here (k .ledger);
         links = links-modes n old new messages me others (k .links) h v here;
         sender =
@@ -81,16 +77,12 @@ module _ (n : ℕ) (old new : ℕ → Room) (queue : List Queued) (messages : Li
     -- what settling leaves alone
     same : {A : Type 0} (f : Room → A) → f (withDebt (old me) nobody own 0) ≡ f (old me) → f (withDebt (old me) (old me .lender) own (old me .link)) ≡ f (old me)
         → f (new me) ≡ f (old me)
-    unfolding credited
-    same f p q =
-        ap f here
-        ∙ by-test (λ (r : Room). f r ≡ f (old me)) (eqb own 0) (withDebt (old me) nobody own 0) (withDebt (old me) (old me .lender) own (old me .link)) (λ b. p) (λ b. q)
+    same f p q = ap f here ∙ credited-either (old me) own (λ (r : Room). f r ≡ f (old me)) p q
 
     pub clauses-settle : Clauses n new queue (messages ++ (reduce ∷ [])) hand
     unfolding isToken
     clauses-settle =
         record {
-          long = long-kept n old new me others (same (λ r. length (r .entries)) refl refl) (k .long);
           ledger = ledger-pay n old new messages me others (k .ledger) own here less lender-low (facts .lender-other) limit (k .links);
           links = links-pay n old new messages me others (k .links) own here lender-low low limit senders;
           sender =

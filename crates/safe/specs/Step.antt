@@ -1,5 +1,5 @@
 -- Every step keeps the invariant, and no step from a table that has it is refused by 10 or 11 once it is begun.
-use mathlib.Core.Path.{_≡_, refl, subst, subst⁻¹}
+use mathlib.Core.Path.{_≡_, refl, subst⁻¹}
 use mathlib.Core.Logic.{_≢_}
 use mathlib.Core.Bool.{false}
 use mathlib.Core.List.{List, [], _∷_, _++_, append-nil}
@@ -8,7 +8,7 @@ use native.Mathlib.Omega.{arith}
 use lib.Dec.{eqb}
 use lib.ListN.{length}
 use lib.Seq.{length-take-le}
-use borrow.Author.Tests.{le-ltb, ne-eqb, eqb-true, eqb-false}
+use borrow.Author.Tests.{le-ltb, eqb-true, eqb-false}
 use Rattle.base.specs.Choice.{by-test, split}
 use Rattle.base.specs.Lists.{remove}
 use Rattle.table.specs.declared.Table.{Table}
@@ -22,7 +22,7 @@ use Rattle.table.specs.Numbers.{DONE}
 use Rattle.table.specs.Tables.{roomAt, queueOf, messagesOf, answer}
 use Rattle.table.specs.Oldest.{oldestOf}
 use Rattle.rules.specs.declared.Event.{Event}
-use Rattle.rules.specs.Events.{isAsk, isUpgrade, isHandBack}
+use Rattle.rules.specs.Events.{ASK, UPGRADE, HANDBACK, isAsk, isUpgrade, isHandBack}
 use Rattle.rules.specs.Refusals.{refusal}
 use Rattle.rules.specs.Work.{Work, workAt}
 use Rattle.rules.specs.Rules.{ask, upgrade, handBack, receive}
@@ -30,7 +30,7 @@ use Rattle.rules.specs.Step.{after, outcome, delivered, made, stepOf, runs}
 use Rattle.facts.specs.Shapes.{Shaped}
 use Rattle.facts.specs.Whole.{WellFormed, facts-of}
 use Rattle.facts.specs.Search.{oldest-low, oldest-there, oldest-first}
-use Rattle.facts.specs.Accepted.{Accepted, accepted}
+use Rattle.facts.specs.Accepted.{Accepted, accepted, kind-idle}
 use Rattle.kept.specs.Moment.{NoOwnRequest}
 use Rattle.kept.specs.Acts.{now}
 use Rattle.kept.specs.After.{Lawful, rooms-are, queue-is, messages-are, after-lawful}
@@ -38,7 +38,9 @@ use Rattle.kept.specs.Start.{same-rooms, start, take-oldest}
 use Rattle.bounds.specs.Limits.{messages-fit}
 use Rattle.safe.specs.Invariant.{Invariant}
 use Rattle.safe.specs.Done.{Done}
-use Rattle.safe.specs.Asks.{ask-safe, upgrade-safe, hand-back-safe}
+use Rattle.safe.specs.Asks.{ask-safe}
+use Rattle.safe.specs.Upgrades.{upgrade-safe}
+use Rattle.safe.specs.HandBacks.{hand-back-safe}
 use Rattle.safe.specs.Delivers.{receive-safe}
 
 -- A table of n rooms that has the invariant, in arrays as long as their types say.
@@ -122,22 +124,18 @@ module _ (n : ℕ) (t : Table) (s : Safe n t) where
   made-safe e a =
       by-test (Goes n) (isAsk e) _ _
       (λ k. outcome-safe (messagesOf t) (ask (workAt t (e .room)) (e .mode))
-      (ask-safe (t .n) (roomAt t) (messagesOf t) (workAt t (e .room)) begin (idle 0 (eqb-true _ _ k) (omega arith)) (a .free k) (e .mode) (a .some k) (a .code k)
+      (ask-safe (t .n) (roomAt t) (messagesOf t) (workAt t (e .room)) begin (kind-idle t e a ASK (eqb-true _ _ k) (omega arith)) (a .free k) (e .mode) (a .some k) (a .code k)
       (rw (append-nil (messagesOf t)) (omega (arith, messages-count, a .few k))) (rw (same-rooms t shaped facts unowned (e .room)) (a .unworn k)))) λ asks.
       by-test (Goes n) (isUpgrade e) _ _
       (λ k. outcome-safe (messagesOf t) (upgrade (workAt t (e .room)))
-      (upgrade-safe (t .n) (roomAt t) (messagesOf t) (workAt t (e .room)) begin (idle 1 (eqb-true _ _ k) (omega arith)) (a .holds k))) λ upgrades.
+      (upgrade-safe (t .n) (roomAt t) (messagesOf t) (workAt t (e .room)) begin (kind-idle t e a UPGRADE (eqb-true _ _ k) (omega arith)) (a .holds k))) λ upgrades.
       by-test (Goes n) (isHandBack e) _ _
       (λ k. outcome-safe (messagesOf t) (handBack (workAt t (e .room)))
-      (hand-back-safe (t .n) (roomAt t) (messagesOf t) (workAt t (e .room)) begin (idle 2 (eqb-true _ _ k) (omega arith)))) λ k.
+      (hand-back-safe (t .n) (roomAt t) (messagesOf t) (workAt t (e .room)) begin (kind-idle t e a HANDBACK (eqb-true _ _ k) (omega arith)))) λ k.
       found-safe (e .room) (e .other) (oldestOf t (e .room) (e .other)) refl (a .found (a .kinds asks upgrades k))
     where
       begin : Done (t .n) (roomAt t) (messagesOf t) (workAt t (e .room))
       begin = begins (e .room) (a .low)
-
-      -- an event of another kind than DELIVER is of a room that does not wait
-      idle : (k : ℕ) → e .kind ≡ k → k < 3 → roomAt t (e .room) .wanted ≡ 0
-      idle k q l = a .idle (ne-eqb (e .kind) 3 (λ z. omega arith))
 
   -- an event that no refusal applies to is accepted, and leads to a table with the invariant
   pub step-goes : (e : Event) → refusal t e ≡ 0 → Goes n (stepOf t e)

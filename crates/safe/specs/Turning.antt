@@ -6,6 +6,7 @@ use mathlib.Core.List.{List, [], _∷_, _++_, append-assoc, List·Memᴰ·head}
 use Prim.Native.Nat.{ℕ, _≤_, _<_}
 use native.Mathlib.Omega.{arith}
 use lib.Dec.{eqb}
+use lib.ListN.{length}
 use borrow.Author.Tests.{eq-eqb, eqb-true}
 use Rattle.base.specs.Choice.{split}
 use Rattle.base.specs.Sums.{one}
@@ -21,17 +22,18 @@ use Rattle.room.specs.Rules.{nextLink, isWorn, lent, lentTo, left, passed, pass
 use Rattle.table.specs.declared.Wire.{Wire}
 use Rattle.table.specs.declared.Queued.{Queued}
 use Rattle.table.specs.declared.Message.the-variants as msg
-use Rattle.table.specs.Formed.{due, tokens, isToken}
+use Rattle.table.specs.Formed.{due, isToken}
 use Rattle.rules.specs.Work.{Work, withQueue, send}
 use Rattle.rules.specs.Rules.{hold, lend, pass}
 use Rattle.facts.specs.Moments.{QueuedFacts}
 use Rattle.facts.specs.Wires.{wire}
 use Rattle.facts.specs.Cases.{passed-either}
+use Rattle.facts.specs.Tokens.{holder-alone, holder-quiet}
 use Rattle.kept.specs.Changed.{changed, changed-same, changed-elsewhere}
 use Rattle.kept.specs.Moment.{Moment, Sound, empty}
 use Rattle.kept.specs.Hand.{nameOf, take-queued}
 use Rattle.kept.specs.Acts.{Whole, now}
-use Rattle.kept.specs.Turns.{sole-token, turn-self, turn-lend, turn-pass}
+use Rattle.kept.specs.Turns.{turn-self, turn-lend, turn-pass}
 use Rattle.owning.specs.Clauses.{Exact, Light}
 use Rattle.owning.specs.Weaker.{lent-weaker, passed-weaker}
 use Rattle.owning.specs.Messages.{Unnamed, unnamed-of}
@@ -45,7 +47,7 @@ use Rattle.tree.specs.Dominance.{dominated}
 use Rattle.tree.specs.Kept.{lend-root-tree}
 use Rattle.bounds.specs.Limits.{never-worn}
 use Rattle.safe.specs.Invariant.{Clauses}
-use Rattle.safe.specs.Moments.{in-hand, quiet, ungranted}
+use Rattle.safe.specs.Moments.{in-hand, ungranted}
 use Rattle.safe.specs.Lending.{clauses-lend}
 use Rattle.safe.specs.Passing.{clauses-pass}
 use Rattle.safe.specs.Settling.{clauses-modes}
@@ -95,6 +97,9 @@ module _ (n : ℕ) (rooms : ℕ → Room) (kept : List Wire) (w : Work) (q : Que
   own : old me ≡ w .room
   own = changed-same rooms me (w .room)
 
+  long : length (old me .entries) ≡ roomLimit
+  long = rw own (a .whole .long)
+
   with-old : old me .token ≡ true
   with-old = ap (λ (r : Room). r .token) own ∙ with
 
@@ -126,7 +131,7 @@ module _ (n : ℕ) (rooms : ℕ → Room) (kept : List Wire) (w : Work) (q : Que
     here = changed-same rooms me r
 
   alone : (c : ℕ) → c < n → c ≢ me → old c .token ≡ false
-  alone c l e = sole-token n old (q ∷ rest) messages empty 0 sound me c low l e with-old
+  alone = holder-alone n old messages (omega (arith, sound .token)) me low with-old
 
   -- "if it is the room itself, it holds the mode and wants none"
   pub serving-self : q .room ≡ me → Serving n rooms kept (hold w (q .mode)) rest
@@ -169,7 +174,6 @@ module _ (n : ℕ) (rooms : ℕ → Room) (kept : List Wire) (w : Work) (q : Que
 
     -- by dominance y owns no more than some entry of the room with the token
     covered : Covered (old me) (old y)
-    unfolding tokens
     covered =
         dominated n old messages limit (sound .room) (a .clauses .ledger) (a .exact) (a .clauses .small) (a .clauses .pairs) (a .clauses .fits)
         (a .clauses .tree) (omega (arith, sound .token)) me low with-old y (head .low) other
@@ -205,7 +209,7 @@ module _ (n : ℕ) (rooms : ℕ → Room) (kept : List Wire) (w : Work) (q : Que
         can-old = rw own can
 
         none : (v : Wire) → Mem v messages → isToken (v .message) ≡ false
-        none = quiet n old (q ∷ rest) messages empty 0 sound me low with-old
+        none = holder-quiet n old messages (omega (arith, sound .token)) me low with-old
 
         fit : under (owned (old y)) m ≡ true
         fit =
@@ -214,7 +218,7 @@ module _ (n : ℕ) (rooms : ℕ → Room) (kept : List Wire) (w : Work) (q : Que
 
         clauses : Clauses n new rest (messages ++ (wire me y (msg.Grant m (nextLink (old me .counter))) ∷ [])) 0
         clauses =
-            clauses-lend n old new rest messages me low limit (others after) 0 in-hand-clauses y m (head .low) other now-lent can-old fit (λ v i b. none v i)
+            clauses-lend n old new rest messages me low limit long (others after) 0 in-hand-clauses y m (head .low) other now-lent can-old fit (λ v i b. none v i)
             (lend-root-tree n old new messages me low (others after) (a .clauses .tree) y m other now-lent (sound .room me low .token-free with-old)
             (λ v i j l e t. ungranted n old (q ∷ rest) messages empty 0 sound me with-old v i t j l e))
 
@@ -226,7 +230,7 @@ module _ (n : ℕ) (rooms : ℕ → Room) (kept : List Wire) (w : Work) (q : Que
           whole = turn-pass n rooms kept w q rest (a .whole) with other agree cannot;
           clauses = rw (← append-assoc kept (w .sent) (wire me y (msg.Token m (remaining (w .room) y) (nextLink (w .room .counter))) ∷ [])) (rw own at clauses);
           exact =
-              exact-pass n old new me low (others after) (a .exact) y (a .clauses .long me low) (omega (arith, head .low))
+              exact-pass n old new me low (others after) (a .exact) y long (omega (arith, head .low))
               (sound .room me low .nobody-none (sound .room me low .token-free with-old)) now-passed;
           light =
               light-turn n old new (q ∷ rest) me low (others after) (a .light) alone q rest refl (rw own agree)
@@ -246,5 +250,5 @@ module _ (n : ℕ) (rooms : ℕ → Room) (kept : List Wire) (w : Work) (q : Que
 
         clauses : Clauses n new rest (messages ++ (wire me y (msg.Token m (remaining (old me) y) (nextLink (old me .counter))) ∷ [])) 0
         clauses =
-            clauses-pass n old new rest messages me low limit (others after) (nameOf q) taken 0 in-hand-clauses y m (head .low) other unnamed now-passed with-old
+            clauses-pass n old new rest messages me low limit long (others after) (nameOf q) taken 0 in-hand-clauses y m (head .low) other unnamed now-passed with-old
             (head .some) (rw own agree) (rw own cannot) covered

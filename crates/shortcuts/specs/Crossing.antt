@@ -185,7 +185,6 @@ clauses : Clauses 3 rooms [] messages 0
 unfolding crossing isToken sum total level weight isRequest
 clauses =
     record {
-      long = λ c l. eqb-true _ _ (all-at 3 (λ c. eqb (length (rooms c .entries)) roomLimit) refl c l);
       ledger = ledger;
       links = links;
       sender = sender-none rooms messages (λ w i. rw (only w i) refl);

@@ -9,7 +9,6 @@ use Rattle.table.specs.declared.Table.{Table}
 use Rattle.table.specs.declared.Queued.{Queued}
 use Rattle.table.specs.declared.Message.{Message}
 use Rattle.table.specs.declared.Message.the-variants as msg
-use Rattle.table.specs.declared.Found.the-variants as found
 use Rattle.table.specs.Tables.{freshTable}
 use Rattle.table.specs.Formed.{wellFormed}
 use Rattle.rules.specs.declared.Event.{Event}

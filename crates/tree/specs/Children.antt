@@ -1,7 +1,6 @@
 -- No children: a room that is not the root and owns nothing is lender of none but the root, and no GRANT of its is under way.
 use mathlib.Core.Path.{_≡_, refl, sym, _∙_, ap}
 use mathlib.Core.Logic.{_⊎_, inl, inr, _≢_, ⊎-elim}
-use mathlib.Core.Bool.{true}
 use mathlib.Core.List.{List}
 use Prim.Native.Nat.{ℕ, _≤_, _<_}
 use native.Mathlib.Omega.{arith}
@@ -13,27 +12,26 @@ use Rattle.room.specs.declared.Entry.{Entry}
 use Rattle.room.specs.Limits.{roomLimit, nobody}
 use Rattle.room.specs.Record.{entryAt}
 use Rattle.room.specs.Owned.{owned}
+use Rattle.room.proofs.Owning.{owned-entry}
 use Rattle.table.specs.declared.Wire.{Wire}
 use Rattle.table.specs.declared.Message.the-variants as msg
-use Rattle.table.specs.Formed.{messageFine, isNamedIn}
+use Rattle.table.specs.Formed.{isNamedIn}
 use Rattle.facts.specs.Rooms.{RoomFacts}
 use Rattle.facts.specs.Moments.{MessageFacts}
-use Rattle.kept.specs.Delivers.{grant-modes}
+use Rattle.facts.specs.Messages.{GrantFacts, proper}
 use Rattle.ledger.specs.Loans.{debt, owed, flushed, Ledger}
 use Rattle.owning.specs.Clauses.{Small}
-use Rattle.owning.specs.Owned.{entry-owned}
 use Rattle.owning.specs.Falls.{under-none}
 use Rattle.tree.specs.Tree.{NoTokenTo}
 use Rattle.tree.specs.Folds.{GrantOn, TokenOn, token-told, owed-by, owed-grant, flushed-by}
 
--- a GRANT is of some mode
-grant-some : (n m l : ℕ) → messageFine n (msg.Grant m l) ≡ true → 1 ≤ m
-unfolding messageFine
-grant-some n m l h = grant-modes m h .0
-
 module _ (n : ℕ) (rooms : ℕ → Room) (messages : List Wire) (limit : n ≤ roomLimit) (facts : (c : ℕ) → c < n → RoomFacts n c (rooms c))
     (right : (w : Wire) → Mem w messages → MessageFacts n rooms w) (ledger : Ledger n rooms messages) (small : Small n rooms messages)
     (y : ℕ) (low : y < n) (untold : NoTokenTo y messages) (idle : owned (rooms y) ≡ 0) where
+  -- a GRANT is of some mode
+  grant-some : (w : Wire) → Mem w messages → (m l : ℕ) → w .message ≡ msg.Grant m l → 1 ≤ m
+  grant-some w member m l is = let grant : GrantFacts (rooms (w .to)) m = rw is at (proper (right w member)) in grant .some
+
   -- it has no entry, and none will come
   flushed-none : (c : ℕ) → c < n → flushed rooms messages y c .mode ≡ 0
   flushed-none c h =
@@ -43,7 +41,7 @@ module _ (n : ℕ) (rooms : ℕ → Room) (messages : List Wire) (limit : n ≤ 
       (flushed-by y c (entryAt (rooms y) c) messages (small .new))
     where
       entry : entryAt (rooms y) c .mode ≡ 0
-      entry = omega (arith, entry-owned (rooms y) c (omega arith))
+      entry = omega (arith, owned-entry (rooms y) c (omega arith))
 
   -- so nobody owes it anything
   owed-none : (c : ℕ) → c < n → c ≢ y → owed rooms messages y c .mode ≡ 0
@@ -63,7 +61,7 @@ module _ (n : ℕ) (rooms : ℕ → Room) (messages : List Wire) (limit : n ≤ 
           let free : rooms c .lender ≡ nobody = facts c h .none-nobody (sym credit ∙ sym (ap (λ (e : Entry). e .mode) q) ∙ owed-none c h other) in
           omega arith
       go (inr (inl g)) =
-          omega (arith, owed-none c h other, grant-some n _ _ (ap (messageFine n) (sym (g .is)) ∙ right (g .wire) (g .member) .fine))
+          omega (arith, owed-none c h other, grant-some (g .wire) (g .member) _ _ (g .is))
       go (inr (inr (rest, t))) = token-told t quiet
 
   -- no GRANT of its is under way, where no room is named twice
@@ -73,5 +71,5 @@ module _ (n : ℕ) (rooms : ℕ → Room) (messages : List Wire) (limit : n ≤ 
     arith,
     ap (λ (e : Entry). e .mode) (owed-grant y (w .to) (debt (rooms (w .to)) y) messages m l w member sender refl is (once (w .to) (right w member .to-low))),
     owed-none (w .to) (right w member .to-low) (λ e. right w member .apart (sender ∙ sym e)),
-    grant-some n m l (ap (messageFine n) (sym is) ∙ right w member .fine),
+    grant-some w member m l is,
   )

@@ -18,13 +18,14 @@ use Rattle.room.specs.Owned.{owned}
 use Rattle.table.specs.declared.Wire.{Wire}
 use Rattle.table.specs.Formed.{isToken, tokens}
 use Rattle.facts.specs.Rooms.{RoomFacts}
+use Rattle.facts.specs.Tokens.{holder-quiet}
 use Rattle.ledger.specs.Loans.{debt, owed, flushed, Ledger}
 use Rattle.owning.specs.Clauses.{Exact, Small, Pairs, Fits}
 use Rattle.owning.specs.Owned.{entry-under}
 use Rattle.owning.specs.Falls.{under-none}
 use Rattle.tree.specs.Tree.{Tree}
 use Rattle.tree.specs.Folds.{GrantOn, TokenOn, token-told, owed-by, flushed-by}
-use Rattle.tree.specs.Root.{Root, holder-root, holder-quiet}
+use Rattle.tree.specs.Root.{Root, holder-root}
 
 -- a mode that the root answers for: of an entry, or what remains to the sender of a TOKEN under way to it
 abbrev pub Pool : (ℕ → Room) → List Wire → ℕ → ℕ → Type 0

@@ -1,22 +1,20 @@
 -- Messages that come and go without a TOKEN or a GRANT: what was said of all TOKENs and GRANTs stays.
 use mathlib.Core.Path.{_≡_, refl, sym, _∙_, ap}
 use mathlib.Core.Logic.{_⊎_, inl, inr, _≢_, ⊎-elim}
-use mathlib.Core.Bool.{Bool, true, false, _||_, false≢true}
+use mathlib.Core.Bool.{Bool, true, false, false≢true}
 use mathlib.Core.List.{List, [], _∷_, _++_, List·Memᴰ·head, List·Memᴰ·tail, List·Memᴰ·cases-cons, List·Memᴰ·not-nil, List·Memᴰ·append-cases, List·Memᴰ·eq-of-singleton, Memᴰ·append-left}
 use Prim.Native.Nat.{ℕ, zero, suc}
-use lib.Dec.{eqb}
 use lib.ListN.{getD}
-use Rattle.base.specs.Choice.{by-test}
 use Rattle.base.specs.Tests.{clash}
 use Rattle.base.specs.Lists.{Mem, remove}
 use Rattle.room.specs.declared.Room.{Room}
-use Rattle.room.specs.Limits.{nobody}
 use Rattle.table.specs.declared.Wire.{Wire}
 use Rattle.table.specs.declared.Message.{Message}
 use Rattle.table.specs.declared.Message.the-variants as msg
 use Rattle.table.specs.Tables.{noWire}
 use Rattle.table.specs.Formed.{isToken}
 use Rattle.facts.specs.Wires.{wire, leavingSent}
+use Rattle.facts.specs.Cases.{leaving-either}
 use Rattle.tree.specs.Tree.{NoTokenTo, isGrant}
 
 -- every GRANT of a list is one of another
@@ -55,11 +53,8 @@ token-none a b m rest l = single-none (wire a b (msg.Token m rest l)) refl
 
 -- what is sent to an old lender is a REDUCE or nothing
 pub leaving-none : (me : ℕ) (r : Room) (a : ℕ) → NoGrant (leavingSent me r a)
-unfolding leavingSent
 leaving-none me r a =
-    by-test NoGrant (eqb (r .lender) nobody || eqb (r .lender) a) [] (wire me (r .lender) (msg.Reduce (r .link) 0) ∷ [])
-    (λ q w member. absurd (List·Memᴰ·not-nil member))
-    (λ q. reduce-none me (r .lender) (r .link) 0)
+    leaving-either me r a NoGrant (λ w member. absurd (List·Memᴰ·not-nil member)) (λ q. reduce-none me (r .lender) (r .link) 0)
 
 -- with such a list behind it the GRANTs are those of before
 pub grants-front : (messages more : List Wire) → NoGrant more → GrantsIn (messages ++ more) messages

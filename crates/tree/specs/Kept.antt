@@ -1,25 +1,23 @@
 -- TREE is kept by each change of a room's record with its messages.
 use mathlib.Core.Path.{_≡_, refl, sym, _∙_, ap}
 use mathlib.Core.Logic.{_⊎_, inl, inr, _≢_, ⊎-elim}
-use mathlib.Core.Bool.{Bool, _&&_, false≢true}
+use mathlib.Core.Bool.{Bool, false≢true}
 use mathlib.Core.List.{List, [], _∷_, _++_, List·Memᴰ·head, Memᴰ·append-right}
 use Prim.Native.Nat.{ℕ, _<_}
 use native.Mathlib.Omega.{arith}
-use lib.Dec.{eqb}
 use lib.ListN.{length, getD}
-use Rattle.base.specs.Choice.{by-test}
 use Rattle.base.specs.Sums.{same?}
 use Rattle.base.specs.Lists.{Mem, remove, mem-remove, mem-snoc, mem-at}
-use Rattle.modes.specs.Modes.{isStronger}
 use Rattle.room.specs.declared.Room.{Room}
 use Rattle.room.specs.Limits.{nobody}
-use Rattle.room.specs.Record.{entryOf, entryAt, withModes, withDebt, setEntry}
+use Rattle.room.specs.Record.{withModes, withDebt}
 use Rattle.room.specs.Rules.{nextLink, lentTo, left, remaining, passedTo, credited, tokenedBy, reduced}
 use Rattle.table.specs.declared.Wire.{Wire}
 use Rattle.table.specs.declared.Message.the-variants as msg
 use Rattle.table.specs.Tables.{noWire}
 use Rattle.table.specs.Formed.{isToken}
 use Rattle.facts.specs.Wires.{wire, leavingSent}
+use Rattle.facts.specs.Cases.{passed-either, credited-either, reduced-either}
 use Rattle.tree.specs.Tree.{NoTokenTo, isGrant, Tree}
 use Rattle.tree.specs.Frames.{grant-is, reduce-none, request-none, token-none, leaving-none, grants-front, untold-front, untold-taken}
 use Rattle.tree.specs.Ranks.{tree-less, tree-rerooted, tree-attached}
@@ -62,7 +60,6 @@ module _ (n : ℕ) (old new : ℕ → Room) (messages : List Wire) (me : ℕ) (l
   -- SETTLE
   pub settle-tree : (m : ℕ) → new me ≡ credited (old me) m
       → Tree n new (messages ++ (wire me (old me .lender) (msg.Reduce (old me .link) m) ∷ []))
-  unfolding credited
   settle-tree m here =
       tree-less n old new messages (messages ++ (wire me (old me .lender) (msg.Reduce (old me .link) m) ∷ [])) t
       (λ c low some untold. (lender-left lender c some, untold-front c messages _ untold))
@@ -70,9 +67,7 @@ module _ (n : ℕ) (old new : ℕ → Room) (messages : List Wire) (me : ℕ) (l
     where
       lender : (new me .lender ≡ nobody) ⊎ (new me .lender ≡ old me .lender)
       lender =
-          rw here
-          (by-test (λ (r : Room). (r .lender ≡ nobody) ⊎ (r .lender ≡ old me .lender)) (eqb m 0) (withDebt (old me) nobody m 0)
-          (withDebt (old me) (old me .lender) m (old me .link)) (λ e. inl refl) (λ e. inr refl))
+          rw here (credited-either (old me) m (λ (r : Room). (r .lender ≡ nobody) ⊎ (r .lender ≡ old me .lender)) (inl refl) (inr refl))
 
   -- LEND by the room with the token, which has no lender and gets no GRANT: it becomes the lowest
   pub lend-root-tree : (y m : ℕ) → y ≢ me → new me ≡ lentTo (old me) y m → old me .lender ≡ nobody
@@ -120,7 +115,7 @@ module _ (n : ℕ) (old new : ℕ → Room) (messages : List Wire) (me : ℕ) (l
   pub pass-tree : (y m : ℕ) → new me ≡ passedTo (old me) y → old me .lender ≡ nobody
       → ((w : Wire) → Mem w messages → (j l : ℕ) → w .message ≡ msg.Grant j l → w .to ≢ y)
       → Tree n new (messages ++ (wire me y (msg.Token m (remaining (old me) y) (nextLink (old me .counter))) ∷ []))
-  unfolding passedTo left isToken
+  unfolding left isToken
   pass-tree y m here free none =
       tree-rerooted n old new messages (messages ++ (sent ∷ [])) t y
       (λ c low some untold. (
@@ -136,10 +131,7 @@ module _ (n : ℕ) (old new : ℕ → Room) (messages : List Wire) (me : ℕ) (l
       sent = wire me y (msg.Token m (remaining (old me) y) (nextLink (old me .counter)))
 
       lender : (new me .lender ≡ nobody) ⊎ (new me .lender ≡ y)
-      lender =
-          rw here
-          (by-test (λ (r : Room). (r .lender ≡ nobody) ⊎ (r .lender ≡ y)) (eqb (remaining (old me) y) 0) (left (old me) y)
-          (withDebt (left (old me) y) y (remaining (old me) y) (nextLink (old me .counter))) (λ e. inl free) (λ e. inr refl))
+      lender = rw here (passed-either (old me) y (λ (r : Room). (r .lender ≡ nobody) ⊎ (r .lender ≡ y)) (inl free) (inr refl))
 
       at : (c : ℕ) → new c .lender ≢ nobody → NoTokenTo c messages → (c ≡ me) ⊎ (c ≢ me)
           → (new c .lender ≡ y) ⊎ ((new c .lender ≡ old c .lender) × NoTokenTo c messages)
@@ -191,14 +183,11 @@ module _ (n : ℕ) (old new : ℕ → Room) (messages : List Wire) (me : ℕ) (l
 
     -- REDUCE
     pub reduce-tree : (l m : ℕ) → getD messages k noWire ≡ wire a me (msg.Reduce l m) → new me ≡ reduced (old me) a l m → Tree n new (remove k messages)
-    unfolding reduced isToken
+    unfolding isToken
     reduce-tree l m is here =
         tree-less n old new messages (remove k messages) t
         (λ c low some untold. (lender-same lender c, untold-taken c messages k _ is (λ q. absurd (false≢true q)) untold))
         (λ w member q. mem-remove k messages member)
       where
         lender : new me .lender ≡ old me .lender
-        lender =
-            rw here
-            (by-test (λ (r : Room). r .lender ≡ old me .lender) (eqb (entryAt (old me) a .link) l && isStronger (entryAt (old me) a .mode) m)
-            (setEntry (old me) a (entryOf m l)) (old me) (λ e. refl) (λ e. refl))
+        lender = rw here (reduced-either (old me) a l m (λ (r : Room). r .lender ≡ old me .lender) refl refl)

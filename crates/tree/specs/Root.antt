@@ -3,15 +3,17 @@ use mathlib.Core.Path.{_≡_, refl, sym, _∙_, ap}
 use mathlib.Core.Logic.{_⊎_, inl, inr, _≢_}
 use mathlib.Core.Bool.{Bool, true, false}
 use mathlib.Core.List.{List, [], _∷_, List·Memᴰ·head, List·Memᴰ·tail, List·Memᴰ·cases-cons, List·Memᴰ·not-nil}
-use Prim.Native.Nat.{ℕ, zero, suc, _≤_, _<_}
+use Prim.Native.Nat.{ℕ, _≤_, _<_}
 use native.Mathlib.Omega.{arith}
 use Rattle.base.specs.Choice.{split}
 use Rattle.base.specs.Tests.{clash}
-use Rattle.base.specs.Sums.{one, sum, sum-at, sum-two, countBelow, below?}
+use Rattle.base.specs.Below.{some-or-none}
+use Rattle.base.specs.Sums.{one, sum-bound}
 use Rattle.base.specs.Lists.{Mem, total, count, mem-total}
 use Rattle.room.specs.declared.Room.{Room}
 use Rattle.table.specs.declared.Wire.{Wire}
 use Rattle.table.specs.Formed.{isToken, tokens}
+use Rattle.facts.specs.Tokens.{holder-alone, holder-quiet, carried-tokenless}
 use Rattle.tree.specs.Tree.{NoTokenTo}
 
 -- no other room has the token, and to none it is under way
@@ -19,15 +21,7 @@ pub record Root (n : ℕ) (rooms : ℕ → Room) (messages : List Wire) (r : ℕ
   pub tokenless : (c : ℕ) → c < n → c ≢ r → rooms c .token ≡ false
   pub untold : (c : ℕ) → c < n → c ≢ r → NoTokenTo c messages
 
--- a test that some number below n passes, and a test that some element passes
-count-found : (n : ℕ) (p : ℕ → Bool) → 1 ≤ countBelow n p → (i : ℕ) × (i < n) × (p i ≡ true)
-unfolding sum
-count-found zero p h = absurd (omega arith)
-count-found (suc n) p h =
-    split (p n)
-    (λ q. (n, omega arith, q))
-    (λ q. let f = count-found n p (omega (arith, ap one q)) in (f .0, omega (arith, f .1), f .2))
-
+-- where the count is not zero some element passes the test
 list-found : {A : Type 0} (p : A → Bool) (l : List A) → 1 ≤ count p l → (a : A) × Mem a l × (p a ≡ true)
 unfolding total
 list-found p [] h = absurd (omega arith)
@@ -57,50 +51,19 @@ module _ (n : ℕ) (rooms : ℕ → Room) (messages : List Wire) (sole : tokens 
   unfolding tokens
   token-sole w v m k s t = list-sole (λ w. isToken (w .message)) messages (omega arith) w v m k s t
 
-  module _ (r : ℕ) (low : r < n) (with : rooms r .token ≡ true) where
-    -- while a room has the token none is under way,
-    pub holder-quiet : (w : Wire) → Mem w messages → isToken (w .message) ≡ false
-    unfolding tokens
-    holder-quiet w m =
-        split (isToken (w .message))
-        (λ q. absurd (omega (
-          arith,
-          mem-total (λ w. one (isToken (w .message))) m,
-          ap one q,
-          sum-at n (λ c. one (rooms c .token)) r low,
-          ap one with,
-        )))
-        (λ q. q)
-
-    -- and that room is the root
-    pub holder-root : Root n rooms messages r
-    unfolding tokens
-    holder-root =
-        record {
-          tokenless =
-              λ c h ne.
-              split (rooms c .token)
-              (λ q. absurd (omega (arith, sum-two n (λ c. one (rooms c .token)) c r h low ne, ap one q, ap one with)))
-              (λ q. q);
-          untold = λ c h ne w m q. clash q (holder-quiet w m);
-        }
+  -- a room that has the token is the root
+  pub holder-root : (r : ℕ) → r < n → rooms r .token ≡ true → Root n rooms messages r
+  holder-root r low with =
+      record {
+        tokenless = holder-alone n rooms messages sole r low with;
+        untold = λ c h ne w m q. clash q (holder-quiet n rooms messages sole r low with w m);
+      }
 
   -- while the token is under way its receiver is the root
   pub receiver-root : (w : Wire) → Mem w messages → isToken (w .message) ≡ true → Root n rooms messages (w .to)
-  unfolding tokens
   receiver-root w m is =
       record {
-        tokenless =
-            λ c h ne.
-            split (rooms c .token)
-            (λ q. absurd (omega (
-              arith,
-              mem-total (λ w. one (isToken (w .message))) m,
-              ap one is,
-              sum-at n (λ c. one (rooms c .token)) c h,
-              ap one q,
-            )))
-            (λ q. q);
+        tokenless = λ c h ne. carried-tokenless n rooms messages sole w m is c h;
         untold = λ c h ne v k q e. ne (sym e ∙ ap (λ (w : Wire). w .to) (token-sole v w k m q is));
       }
 
@@ -108,12 +71,12 @@ module _ (n : ℕ) (rooms : ℕ → Room) (messages : List Wire) (sole : tokens 
 pub rooted : (n : ℕ) (rooms : ℕ → Room) (messages : List Wire) → tokens n rooms messages ≡ 1 → ((w : Wire) → Mem w messages → w .to < n)
     → (r : ℕ) × (r < n) × Root n rooms messages r
 unfolding tokens
-rooted n rooms messages sole low = go (below? 0 (countBelow n (λ c. rooms c .token)))
+rooted n rooms messages sole low = go (some-or-none n (λ c. rooms c .token))
   where
-    go : (0 < countBelow n (λ c. rooms c .token)) ⊎ (countBelow n (λ c. rooms c .token) ≤ 0) → (r : ℕ) × (r < n) × Root n rooms messages r
-    go (inl h) =
-        let f = count-found n (λ c. rooms c .token) (omega arith) in
-        (f .0, f .1, holder-root n rooms messages (omega arith) (f .0) (f .1) (f .2))
-    go (inr h) =
-        let f = list-found (λ w. isToken (w .message)) messages (omega arith) in
+    go : ((c : ℕ) × (c < n) × (rooms c .token ≡ true)) ⊎ ((c : ℕ) → c < n → rooms c .token ≡ false) → (r : ℕ) × (r < n) × Root n rooms messages r
+    go (inl (c, h, with)) = (c, h, holder-root n rooms messages (omega arith) c h with)
+    go (inr none) =
+        let f =
+        list-found (λ w. isToken (w .message)) messages
+        (omega (arith, sum-bound n 0 (λ c. one (rooms c .token)) (λ c h. omega (arith, ap one (none c h))))) in
         (f .0 .to, low (f .0) (f .1), receiver-root n rooms messages (omega arith) (f .0) (f .1) (f .2))
