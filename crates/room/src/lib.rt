@@ -141,8 +141,10 @@ impl Room {
         let mut i: usize = 0;
         while i < ROOMS {
             let e = self.entries[i];
-            if e.mode != modes::NONE {
-                return false;
+            let mode = e.mode;
+            match mode {
+                modes::NONE => {}
+                modes::IR..=255 => return false,
             }
             i += 1;
         }
@@ -174,16 +176,13 @@ impl Room {
         room.toward = w;
         room.counter = link;
         let worn = self.counter >= LAST_LINK;
-        if rest != modes::NONE {
-            room.lender = w;
-            room.credit = rest;
-            room.link = link;
-            return Passed {
-                room: room,
-                rest: rest,
-                link: link,
-                worn: worn,
-            };
+        match rest {
+            modes::NONE => {}
+            modes::IR..=255 => {
+                room.lender = w;
+                room.credit = rest;
+                room.link = link;
+            }
         }
         Passed {
             room: room,
@@ -211,13 +210,12 @@ impl Room {
         };
         let mut room = self;
         room.credit = now;
-        if now == modes::NONE {
-            room.lender = NOBODY;
-            room.link = 0;
-            return Changed {
-                room: room,
-                send: send,
-            };
+        match now {
+            modes::NONE => {
+                room.lender = NOBODY;
+                room.link = 0;
+            }
+            modes::IR..=255 => {}
         }
         Changed {
             room: room,

@@ -33,8 +33,10 @@ pub fn run(n: u8, events: &[u8]) -> Answer
     ensures { λ r. ⌜ Ran n (eventsOf (now (events .entry))) r ⌝ }
 {
     let fresh = table::fresh(n);
-    if fresh.number != numbers::DONE {
-        return fresh;
+    let number = fresh.number;
+    match number {
+        numbers::DONE => {}
+        1..=255 => return fresh,
     }
     let start = fresh.table;
     let last = made(start, events);

@@ -25,13 +25,14 @@ fn begin(t: Table, n: u8) -> Answer
     ensures { λ r. ⌜ r ≡ begun t (freshOf n) ⌝ }
 {
     let fresh = table::fresh(n);
-    if fresh.number != numbers::DONE {
-        return Answer {
-            number: fresh.number,
+    let number = fresh.number;
+    match number {
+        numbers::DONE => fresh,
+        1..=255 => Answer {
+            number: number,
             table: t,
-        };
+        },
     }
-    fresh
 }
 
 // A line of another form.

@@ -16,7 +16,7 @@ use Rattle.table.specs.Oldest.{oldestIn, oldestOf}
 use Rattle.rules.specs.declared.Event.{Event}
 use Rattle.rules.specs.Work.{send, join, sendOut}
 use Rattle.rules.specs.Rules.{hold, want, lend, settle, upgradeWaits, upgraded, isEmpty, upgrade}
-use Rattle.rules.specs.Refusals.{first, isFound, anyWorn, refusals}
+use Rattle.rules.specs.Refusals.{first, isFound, anyWorn, refusalAs}
 use Rattle.rules.specs.Step.{after, outcome}
 use Rattle.variants.specs.Step.{deliveredBy, madeBy, stepBy, runsBy}
 use Rattle.variants.specs.Rests.{isStill}
@@ -46,7 +46,7 @@ pub record Ends : Type 0 where
 
 pub ends : Ends
 unfolding spring heldOrOwned entryCleared counterLifted isStill
-    runsBy freshTable stepBy madeBy deliveredBy outcome after refusals first isFound anyWorn oldestOf oldestIn
+    runsBy freshTable stepBy madeBy deliveredBy outcome after refusalAs first isFound anyWorn oldestOf oldestIn
     reducedBy tokenedAs passedAs passBy serveQueueBy serveBy settleOrServeBy askBy handBackBy takeRequestBy receiveBy
     upgrade upgraded upgradeWaits settle lend hold want isEmpty send join sendOut
     nextLink isWorn lentTo lent credited settled leaving granted lifted tokenedBy tokened entryOf larger strongest owned hasNoEntries

@@ -22,7 +22,7 @@ use Rattle.table.specs.Formed.{isToken}
 use Rattle.rules.specs.declared.Event.{Event}
 use Rattle.rules.specs.Work.{send, sendOut}
 use Rattle.rules.specs.Rules.{hold, lend, settle, upgradeWaits, upgraded, isEmpty}
-use Rattle.rules.specs.Refusals.{first, isFound, anyWorn, refusals}
+use Rattle.rules.specs.Refusals.{first, isFound, anyWorn, refusalAs}
 use Rattle.rules.specs.Step.{after, outcome}
 use Rattle.facts.specs.Wires.{wire}
 use Rattle.tree.specs.Tree.{isGrant, Tree}
@@ -53,7 +53,7 @@ record Owes : Type 0 where
   held : heldIn unanswered ≡ W ∷ R ∷ R ∷ []
 
 owes : Owes
-unfolding crossing crossed unanswered runsBy stepBy madeBy deliveredBy outcome after refusals first isFound anyWorn oldestOf oldestIn
+unfolding crossing crossed unanswered runsBy stepBy madeBy deliveredBy outcome after refusalAs first isFound anyWorn oldestOf oldestIn
     reducedBy serveQueueBy serveBy settleOrServeBy askBy takeRequestBy receiveBy upgraded upgradeWaits settle lend hold isEmpty send sendOut
     nextLink isWorn lentTo lent settled leaving granted entryOf larger strongest owned agrees isStronger canLend remove padded
 owes = record { debt = refl; grant = refl; held = refl }

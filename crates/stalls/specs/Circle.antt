@@ -19,7 +19,7 @@ use Rattle.table.specs.Oldest.{oldestIn, oldestOf}
 use Rattle.rules.specs.declared.Event.{Event}
 use Rattle.rules.specs.Work.{send, join, sendOut}
 use Rattle.rules.specs.Rules.{hold, want, lend, pass, settle, upgradeWaits, upgraded, serveQueue, serve, isEmpty, askWith, askWithout, ask, upgrade}
-use Rattle.rules.specs.Refusals.{first, isFound, anyWorn, refusals}
+use Rattle.rules.specs.Refusals.{first, isFound, anyWorn, refusalAs}
 use Rattle.rules.specs.Step.{after, outcome}
 use Rattle.drain.specs.Drains.{bound}
 use Rattle.twelve.specs.Twelve.{asks, delivers}
@@ -41,12 +41,12 @@ acceptedBy r t (e ∷ es) = one (eqb (stepBy r t e .«number») DONE) + accepted
 
 -- demand 3 allows 52
 circle-bound : bound begun ≡ 52
-unfolding runsBy freshTable stepBy madeBy deliveredBy outcome after first isFound anyWorn oldestOf oldestIn takeRequestBy receiveBy settleOrServeBy handBackBy ask askWith askWithout upgrade upgraded upgradeWaits serveQueue serve settle lend pass hold want isEmpty send join sendOut nextLink isWorn lentTo lent left remaining passedTo passed credited settled leaving granted lifted tokenedBy tokened reduced entryOf larger strongest owned hasNoEntries agrees isStronger canLend remove padded refusals
+unfolding runsBy freshTable stepBy madeBy deliveredBy outcome after first isFound anyWorn oldestOf oldestIn takeRequestBy receiveBy settleOrServeBy handBackBy ask askWith askWithout upgrade upgraded upgradeWaits serveQueue serve settle lend pass hold want isEmpty send join sendOut nextLink isWorn lentTo lent left remaining passedTo passed credited settled leaving granted lifted tokenedBy tokened reduced entryOf larger strongest owned hasNoEntries agrees isStronger canLend remove padded refusalAs
 circle-bound = refl
 
 -- and of 54 none is refused
 circle-accepted : acceptedBy (rulesBy circling) begun (rounds 27) ≡ 54
-unfolding runsBy freshTable stepBy madeBy deliveredBy outcome after first isFound anyWorn oldestOf oldestIn takeRequestBy receiveBy settleOrServeBy handBackBy ask askWith askWithout upgrade upgraded upgradeWaits serveQueue serve settle lend pass hold want isEmpty send join sendOut nextLink isWorn lentTo lent left remaining passedTo passed credited settled leaving granted lifted tokenedBy tokened reduced entryOf larger strongest owned hasNoEntries agrees isStronger canLend remove padded refusals acceptedBy rounds
+unfolding runsBy freshTable stepBy madeBy deliveredBy outcome after first isFound anyWorn oldestOf oldestIn takeRequestBy receiveBy settleOrServeBy handBackBy ask askWith askWithout upgrade upgraded upgradeWaits serveQueue serve settle lend pass hold want isEmpty send join sendOut nextLink isWorn lentTo lent left remaining passedTo passed credited settled leaving granted lifted tokenedBy tokened reduced entryOf larger strongest owned hasNoEntries agrees isStronger canLend remove padded refusalAs acceptedBy rounds
 circle-accepted = refl
 
 -- "at most 3n² + 8n + m further steps are accepted" fails

@@ -14,7 +14,7 @@ use Rattle.table.specs.Tables.{roomAt, freshTable}
 use Rattle.table.specs.Oldest.{oldestIn, oldestOf}
 use Rattle.rules.specs.Work.{send, join, sendOut}
 use Rattle.rules.specs.Rules.{hold, want, lend, pass, settle, upgradeWaits, upgraded, serveQueue, serve, isEmpty, askWith, askWithout, ask, upgrade}
-use Rattle.rules.specs.Refusals.{first, isFound, anyWorn, refusals}
+use Rattle.rules.specs.Refusals.{first, isFound, anyWorn, refusalAs}
 use Rattle.rules.specs.Step.{after, outcome}
 use Rattle.twelve.specs.Twelve.{asks, delivers}
 use Rattle.variants.specs.Step.{deliveredBy, madeBy, stepBy, runsBy}
@@ -36,7 +36,7 @@ pub record Stalls : Type 0 where
   pub passed : isStill (asked right) ≡ false
 
 pub stalls : Stalls
-unfolding isStill runsBy freshTable stepBy madeBy deliveredBy outcome after first isFound anyWorn oldestOf oldestIn takeRequestBy receiveBy settleOrServeBy handBackBy ask askWith askWithout upgrade upgraded upgradeWaits serveQueue serve settle lend pass hold want isEmpty send join sendOut nextLink isWorn lentTo lent left remaining passedTo passed credited settled leaving granted lifted tokenedBy tokened reduced entryOf larger strongest owned hasNoEntries agrees isStronger canLend remove padded refusals
+unfolding isStill runsBy freshTable stepBy madeBy deliveredBy outcome after first isFound anyWorn oldestOf oldestIn takeRequestBy receiveBy settleOrServeBy handBackBy ask askWith askWithout upgrade upgraded upgradeWaits serveQueue serve settle lend pass hold want isEmpty send join sendOut nextLink isWorn lentTo lent left remaining passedTo passed credited settled leaving granted lifted tokenedBy tokened reduced entryOf larger strongest owned hasNoEntries agrees isStronger canLend remove padded refusalAs
 stalls =
     record {
       unserved = refl;

@@ -14,7 +14,7 @@ use Rattle.table.specs.Tables.{roomAt}
 use Rattle.table.specs.Oldest.{oldestIn, oldestOf}
 use Rattle.rules.specs.declared.Event.{Event}
 use Rattle.rules.specs.Events.{HANDBACK, DELIVER, isHandBack, isDeliver}
-use Rattle.rules.specs.Refusals.{first, isFound, refusals}
+use Rattle.rules.specs.Refusals.{first, isFound, refusalAs}
 use Rattle.variants.specs.Step.{Rules, stepBy}
 
 -- no delivery and no hand-back is accepted
@@ -27,13 +27,13 @@ isStill t = eqb (t .count) 0 && allBelow (t .n) (λ x. eqb (roomAt t x .held) 0 
 
 module _ (r : Rules) (t : Table) (still : isStill t ≡ true) where
   delivery : (e : Event) → e .kind ≡ DELIVER → stepBy r t e .«number» ≢ DONE
-  unfolding stepBy refusals first isFound oldestOf oldestIn isStill
+  unfolding stepBy refusalAs first isFound oldestOf oldestIn isStill
   delivery e kind =
       let empty : t .count ≡ 0 = eqb-true _ _ (and-left _ _ still) in
       rw (kind, empty) (split (leb (t .n) (e .room) || leb (t .n) (e .other)) (λ b. rw b (λ z. omega arith)) (λ b. rw b (λ z. omega arith)))
 
   hand-back : (e : Event) → e .kind ≡ HANDBACK → stepBy r t e .«number» ≢ DONE
-  unfolding stepBy refusals first isStill
+  unfolding stepBy refusalAs first isStill
   hand-back e kind =
       rw kind
       (split (leb (t .n) (e .room)) (λ b. rw b (λ z. omega arith)) λ b.

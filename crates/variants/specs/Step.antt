@@ -1,9 +1,9 @@
 -- The step with its rules left open, and without the test of well-formedness. With document 01's rules no table that events lead to from a
 -- fresh one fails it; with other rules a table may fail it, and is worked on all the same.
 use Prim.Native.Nat.{ℕ}
+use mathlib.Core.Bool.{true}
 use mathlib.Core.List.{List, [], _∷_}
 use lib.Dec.{eqb}
-use lib.ListN.{drop}
 use Rattle.base.specs.Choice.{if_then_else_}
 use Rattle.base.specs.Lists.{remove}
 use Rattle.table.specs.declared.Table.{Table}
@@ -18,7 +18,7 @@ use Rattle.rules.specs.declared.Event.{Event}
 use Rattle.rules.specs.Work.{Work, workAt}
 use Rattle.rules.specs.Rules.{upgrade}
 use Rattle.rules.specs.Events.{isAsk, isUpgrade, isHandBack}
-use Rattle.rules.specs.Refusals.{first, refusals}
+use Rattle.rules.specs.Refusals.{refusalAs}
 use Rattle.rules.specs.Step.{outcome}
 
 -- what a room does with an event that is not refused; an upgrade is as the rules have it
@@ -39,10 +39,9 @@ module _ (r : Rules) where
       else if isHandBack e then outcome t (messagesOf t) (r .handsBack (workAt t (e .room)))
       else deliveredBy t (e .room) (e .other) (oldestOf t (e .room) (e .other))
 
-  -- the first row of the refusals is TABLE
   unfoldable pub stepBy : Table → Event → Answer
   stepBy t e =
-      let refusal = first (drop 1 (refusals t e)) in
+      let refusal = refusalAs true t e in
       if eqb refusal DONE then madeBy t e else answer refusal t
 
   unfoldable pub runsBy : Table → List Event → Table

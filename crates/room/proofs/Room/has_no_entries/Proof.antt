@@ -35,9 +35,9 @@ element-copy-out-e c = search needs
 
 returns : tie.Need-returns Inv-loop μ-loop
 returns c =
-    let r = c .before .before .before .before .before .args .t1 in
-    let i = c .before .before .before .before .loop .i in
-    sym (all-fails (isNone r) roomLimit i (omega arith) (ne-eqb _ _ (c .if1 .taken))) ∙ no-entries-all r
+    let r = c .before .before .before .before .args .t1 in
+    let i = c .before .before .before .loop .i in
+    sym (all-fails (isNone r) roomLimit i (omega arith) (ne-eqb _ _ (c .match .rest .1))) ∙ no-entries-all r
 
 add-i : tie.Need-add-i Inv-loop μ-loop
 add-i c = search needs
@@ -47,9 +47,9 @@ loop-less c = search needs
 
 loop-again : tie.Need-loop-again Inv-loop μ-loop
 loop-again c =
-    let r = c .before .before .before .before .before .args .t1 in
-    let k = c .before .before .before .before .loop in
-    (search needs, all-more (isNone r) (k .i) (k .inv .1) (eq-eqb _ _ (c .if1 .left)))
+    let r = c .before .before .before .before .args .t1 in
+    let k = c .before .before .before .loop in
+    (search needs, all-more (isNone r) (k .i) (k .inv .1) (eq-eqb _ _ (c .match .keys1)))
 
 returns-2 : tie.Need-returns-2 Inv-loop μ-loop
 returns-2 c =

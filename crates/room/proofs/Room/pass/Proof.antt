@@ -13,10 +13,10 @@ owned-requires : tie.Need-owned-requires
 owned-requires c κs = search needs
 
 returns : tie.Need-returns
-returns c = search (needs, passed-owing)
+returns c = search (needs, passed-free)
 
 returns-2 : tie.Need-returns-2
-returns-2 c = search (needs, passed-free)
+returns-2 c = search (needs, passed-owing)
 
 pub pass-spec : {M : Type 1} → statement M
 pass-spec =
