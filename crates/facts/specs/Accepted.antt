@@ -1,5 +1,5 @@
 -- What an accepted event has: none of the refusals applies.
-use mathlib.Core.Path.{_≡_, refl, _∙_}
+use mathlib.Core.Path.{_≡_, refl}
 use mathlib.Core.Logic.{_≢_}
 use mathlib.Core.Bool.{Bool, true, false, _&&_, _||_, true≢false, false≢true}
 use mathlib.Core.List.{List, _∷_}
@@ -23,7 +23,7 @@ use Rattle.rules.specs.declared.Event.{Event}
 use Rattle.rules.specs.Limits.{busyLimit, wornLimit}
 use Rattle.rules.specs.Events.{DELIVER, isAsk, isUpgrade, isHandBack, isDeliver}
 use Rattle.rules.specs.Step.{made, stepOf}
-use Rattle.rules.specs.Refusals.{Row, row, first, refusal, refusalAs, refusal-told, isFound, anyWorn}
+use Rattle.rules.specs.Refusals.{Row, row, first, refusal, refusalAs, isFound, anyWorn}
 
 -- the first number is 0 only where the row does not apply
 first-none : (k : ℕ) (b : Bool) (rows : List Row) → first (row k b ∷ rows) ≡ 0 → k ≢ 0 → (b ≡ false) × (first rows ≡ 0)
@@ -47,6 +47,7 @@ all-unworn : (t : Table) → anyWorn t ≡ false → (c : ℕ) → c < t .n → 
 unfolding anyWorn
 all-unworn t h c l = ltb-true _ _ (all-at (t .n) (λ c. ltb (roomAt t c .counter) wornLimit) (not-false _ h) c l)
 
+-- what each refusal that does not apply says, in their order, where it is told whether the table is well formed
 pub record AcceptedAs (told : Bool) (t : Table) (e : Event) : Type 0 where
   -- 1 TABLE
   pub formed : told ≡ true
@@ -106,7 +107,8 @@ abbrev pub Accepted : Table → Event → Type 0
 Accepted t e = AcceptedAs (wellFormed t) t e
 
 pub accepted : (t : Table) (e : Event) → refusal t e ≡ 0 → Accepted t e
-accepted t e h = accepted-as (wellFormed t) t e (refusal-told t e ∙ h)
+unfolding refusal
+accepted t e h = accepted-as (wellFormed t) t e h
 
 -- an event of another kind than DELIVER is of a room that does not wait
 pub kind-idle : (t : Table) (e : Event) → Accepted t e → (k : ℕ) → e .kind ≡ k → k < DELIVER → roomAt t (e .room) .wanted ≡ 0

@@ -24,7 +24,7 @@ use Rattle.base.specs.Arrays.{padded}
 use Rattle.rules.specs.declared.Event.{Event}
 use Rattle.rules.specs.Work.{send, sendOut}
 use Rattle.rules.specs.Rules.{lend, settle, takeRequest, receive}
-use Rattle.rules.specs.Refusals.{first, isFound, anyWorn, refusals, refusal}
+use Rattle.rules.specs.Refusals.{first, isFound, anyWorn, refusalAs, refusal}
 use Rattle.facts.specs.Shapes.{Shaped}
 use Rattle.rules.specs.Step.{after, outcome, delivered, made, stepOf}
 
@@ -49,7 +49,7 @@ pub bare-not-kept : Shaped bareTable × (wellFormed bareTable ≡ true) × (step
     × (wellFormed (stepOf bareTable bareEvent .table) ≡ false)
 unfolding bareTable bareEvent wellFormed sizesFit roomsFine roomFine entryFine isBlankRoom isBlankEntry queueFine queuedFine isBlankQueued
     wiresFine wireFine messageFine namesRightly isBlankWire isNothing tokens isToken namesFine names isNamedIn due sum total
-    stepOf refusal refusals first isFound anyWorn oldestOf oldestIn made delivered outcome after remove padded
+    stepOf refusal refusalAs first isFound anyWorn oldestOf oldestIn made delivered outcome after remove padded
     receive takeRequest agrees isStronger canLend larger strongest owned lend lent lentTo nextLink isWorn entryOf settle settled send sendOut
 bare-not-kept = (record { rooms = refl; entries = entries; queue = refl; wires = refl }, refl, refl, refl)
   where

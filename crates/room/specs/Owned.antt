@@ -3,6 +3,7 @@ use Prim.Native.Nat.{ℕ, zero, suc}
 use mathlib.Core.Bool.{Bool}
 use lib.Dec.{eqb}
 use Rattle.base.specs.Choice.{if_then_else_}
+use Rattle.modes.specs.Codes.{none}
 use Rattle.base.specs.Below.{allBelow}
 use Rattle.modes.specs.Modes.{isStronger}
 use Rattle.room.specs.declared.Room.{Room}
@@ -23,4 +24,4 @@ owned r = strongest r roomLimit
 
 -- "With no entries": every entry is of mode none
 unfoldable pub hasNoEntries : Room → Bool
-hasNoEntries r = allBelow roomLimit (λ c. eqb (entryAt r c .mode) 0)
+hasNoEntries r = allBelow roomLimit (λ c. eqb (entryAt r c .mode) none)

@@ -5,17 +5,18 @@ use mathlib.Core.List.{[]}
 use lib.ListN.{getD, set, replicate}
 use lib.Dec.{eqb}
 use Rattle.base.specs.Choice.{if_then_else_}
+use Rattle.modes.specs.Codes.{none}
 use Rattle.room.specs.declared.Room.{Room}
 use Rattle.room.specs.declared.Entry.{Entry}
 use Rattle.room.specs.Limits.{roomLimit, nobody}
 
 -- "mode none meaning no entry"; its link number is zero
 abbrev pub noEntry : Entry
-noEntry = record { mode = 0; link = 0 }
+noEntry = record { mode = none; link = 0 }
 
 -- "Wherever below an entry becomes none .. the link number there becomes zero."
 unfoldable pub entryOf : ℕ → ℕ → Entry
-entryOf m l = if eqb m 0 then noEntry else record { mode = m; link = l }
+entryOf m l = if eqb m none then noEntry else record { mode = m; link = l }
 
 -- "for each room an entry of mode and link number"
 abbrev pub entryAt : Room → ℕ → Entry
@@ -25,12 +26,12 @@ entryAt r c = getD (r .entries) c noEntry
 abbrev pub blankRoom : Room
 blankRoom =
     record {
-      held = 0;
-      wanted = 0;
+      held = none;
+      wanted = none;
       token = false;
       toward = 0;
       lender = nobody;
-      credit = 0;
+      credit = none;
       link = 0;
       counter = 0;
       entries = replicate roomLimit noEntry;

@@ -3,6 +3,7 @@ use Prim.Native.Nat.{ℕ, _+_}
 use mathlib.Core.Bool.{Bool, true, false, _||_, _&&_}
 use lib.Dec.{ltb, leb, eqb}
 use Rattle.base.specs.Choice.{if_then_else_}
+use Rattle.modes.specs.Codes.{none}
 use Rattle.modes.specs.Modes.{isStronger}
 use Rattle.room.specs.declared.Room.{Room}
 use Rattle.room.specs.declared.Changed.{Changed}
@@ -40,7 +41,7 @@ remaining r w = owned (setEntry r w noEntry)
 -- "if what remains isn't none, lender w, credit what remains, that link number"
 unfoldable pub passedTo : Room → ℕ → Room
 passedTo r w =
-    if eqb (remaining r w) 0 then left r w
+    if eqb (remaining r w) none then left r w
     else withDebt (left r w) w (remaining r w) (nextLink (r .counter))
 
 unfoldable pub passed : Room → ℕ → Passed
@@ -49,7 +50,7 @@ passed r w =
 
 -- "credit becomes owned, and at none the lender is nobody"
 unfoldable pub credited : Room → ℕ → Room
-credited r m = if eqb m 0 then withDebt r nobody m 0 else withDebt r (r .lender) m (r .link)
+credited r m = if eqb m none then withDebt r nobody m 0 else withDebt r (r .lender) m (r .link)
 
 -- "Settle (without the token): if owned is weaker than credit, send the lender REDUCE to owned"
 unfoldable pub settled : Room → Changed
@@ -62,11 +63,11 @@ settled r =
 unfoldable pub leaving : Room → ℕ → Send
 leaving r a =
     if eqb (r .lender) nobody || eqb (r .lender) a then send.Nothing
-    else send.Reduce (r .lender) (r .link) 0
+    else send.Reduce (r .lender) (r .link) none
 
 -- "GRANT: .. Then lender a, the new link number, credit and held the mode, wanted none."
 unfoldable pub granted : Room → ℕ → ℕ → ℕ → Changed
-granted r a m l = record { room = withDebt (withModes r m 0) a m l; send = leaving r a }
+granted r a m l = record { room = withDebt (withModes r m none) a m l; send = leaving r a }
 
 -- "its counter is the larger of its own and the link number"
 unfoldable pub lifted : ℕ → ℕ → ℕ
@@ -76,7 +77,7 @@ lifted k l = if ltb k l then l else k
 -- with the link number; its counter is the larger of its own and the link number"
 unfoldable pub tokenedBy : Room → ℕ → ℕ → ℕ → ℕ → ℕ → Room
 tokenedBy r me a m rest l =
-    withCounter (withDebt (withToken (withModes (setEntry r a (entryOf rest l)) m 0) true me) nobody 0 0) (lifted (r .counter) l)
+    withCounter (withDebt (withToken (withModes (setEntry r a (entryOf rest l)) m none) true me) nobody none 0) (lifted (r .counter) l)
 
 unfoldable pub tokened : Room → ℕ → ℕ → ℕ → ℕ → ℕ → Changed
 tokened r me a m rest l = record { room = tokenedBy r me a m rest l; send = leaving r a }

@@ -1,12 +1,11 @@
 -- "Numbers given back, in the order they are tried", as far as they are known before the step is made.
 use Prim.Native.Nat.{ℕ}
-use mathlib.Core.Path.{_≡_, refl}
 use mathlib.Core.Bool.{Bool, true, false, not, _&&_, _||_}
 use mathlib.Core.List.{List, [], _∷_}
 use lib.Dec.{ltb, leb, eqb}
 use Rattle.base.specs.Choice.{if_then_else_}
 use Rattle.base.specs.Below.{allBelow}
-use Rattle.modes.specs.Codes.{U}
+use Rattle.modes.specs.Codes.{none, U}
 use Rattle.table.specs.declared.Table.{Table}
 use Rattle.table.specs.declared.Found.{Found}
 use Rattle.table.specs.declared.Found.the-variants as found
@@ -40,30 +39,22 @@ unfoldable pub anyWorn : Table → Bool
 anyWorn t = not (allBelow (t .n) (λ c. ltb (roomAt t c .counter) wornLimit))
 
 -- the numbers in their order, where it is told whether the table is well formed
-abbrev pub refusalsAs : Bool → Table → Event → List Row
-refusalsAs formed t e =
+abbrev pub refusals : Bool → Table → Event → List Row
+refusals formed t e =
     row TABLE (not formed)
     ∷ row EVENT (not (isAsk e || isUpgrade e || isHandBack e || isDeliver e))
     ∷ row ROOM (leb (t .n) (e .room) || isDeliver e && leb (t .n) (e .other))
     ∷ row MODE (isAsk e && not (isMode (e .mode)))
-    ∷ row WAITING (not (isDeliver e) && not (eqb (roomAt t (e .room) .wanted) 0))
-    ∷ row HELD (isAsk e && not (eqb (roomAt t (e .room) .held) 0))
-    ∷ row NOT-HELD (isHandBack e && eqb (roomAt t (e .room) .held) 0 || isUpgrade e && not (eqb (roomAt t (e .room) .held) U))
+    ∷ row WAITING (not (isDeliver e) && not (eqb (roomAt t (e .room) .wanted) none))
+    ∷ row HELD (isAsk e && not (eqb (roomAt t (e .room) .held) none))
+    ∷ row NOT-HELD (isHandBack e && eqb (roomAt t (e .room) .held) none || isUpgrade e && not (eqb (roomAt t (e .room) .held) U))
     ∷ row EMPTY (isDeliver e && not (isFound (oldestOf t (e .room) (e .other))))
     ∷ row BUSY (isAsk e && leb busyLimit (t .count))
     ∷ row WORN (isAsk e && anyWorn t)
     ∷ []
 
-unfoldable pub refusals : Table → Event → List Row
-refusals t e = refusalsAs (wellFormed t) t e
+unfoldable pub refusalAs : Bool → Table → Event → ℕ
+refusalAs formed t e = first (refusals formed t e)
 
 unfoldable pub refusal : Table → Event → ℕ
-refusal t e = first (refusals t e)
-
--- the first refusal, where it is told whether the table is well formed
-unfoldable pub refusalAs : Bool → Table → Event → ℕ
-refusalAs formed t e = first (refusalsAs formed t e)
-
-pub refusal-told : (t : Table) (e : Event) → refusalAs (wellFormed t) t e ≡ refusal t e
-unfolding refusalAs refusal refusals
-refusal-told t e = refl
+refusal t e = refusalAs (wellFormed t) t e

@@ -4,7 +4,7 @@ use mathlib.Core.Bool.{Bool, true, false, not, _&&_}
 use mathlib.Core.List.{List, [], _∷_}
 use lib.Dec.{eqb}
 use Rattle.base.specs.Choice.{if_then_else_}
-use Rattle.modes.specs.Codes.{U, W}
+use Rattle.modes.specs.Codes.{none, U, W}
 use Rattle.modes.specs.Modes.{agrees, canLend}
 use Rattle.room.specs.declared.Room.{Room}
 use Rattle.room.specs.Record.{withModes}
@@ -17,7 +17,7 @@ use Rattle.rules.specs.Work.{Work, withRoom, withQueue, withWorn, send, 
 
 -- x holds m, and wants nothing
 unfoldable pub hold : Work → ℕ → Work
-hold w m = withRoom w (withModes (w .room) m 0)
+hold w m = withRoom w (withModes (w .room) m none)
 
 -- x wants m
 unfoldable pub want : Work → ℕ → Work
@@ -78,7 +78,7 @@ askWith w m = if isEmpty (w .queue) && agrees m (owned (w .room)) then hold w m 
 unfoldable pub askWithout : Work → ℕ → Work
 askWithout w m =
     if canLend (owned (w .room)) m then hold w m
-    else send (want w m) (w .room .toward) (msg.Request (w .me) m (eqb (owned (w .room)) 0))
+    else send (want w m) (w .room .toward) (msg.Request (w .me) m (eqb (owned (w .room)) none))
 
 -- "ASK(x, m)"
 unfoldable pub ask : Work → ℕ → Work
@@ -90,7 +90,7 @@ upgrade w = if hasNoEntries (w .room) then hold w W else want w W
 
 -- "HANDBACK(x). Held becomes none. Then settle or serve."
 unfoldable pub handBack : Work → Work
-handBack w = settleOrServe (hold w 0)
+handBack w = settleOrServe (hold w none)
 
 -- "REQUEST at the room with the token: it joins the end of the queue, then serve. At another room b: if the origin owned nothing, isn't b,
 -- and owned of b can lend the mode, b lends, then settles; else b sends it on, unchanged, to toward."

@@ -13,7 +13,7 @@ use Rattle.table.specs.Tables.{answer}
 use Rattle.table.specs.Numbers.{TABLE}
 use Rattle.table.specs.Formed.{sizesFit, wellFormed}
 use Rattle.rules.specs.declared.Event.{Event}
-use Rattle.rules.specs.Refusals.{first, refusals, refusal}
+use Rattle.rules.specs.Refusals.{first, refusalAs, refusal}
 use Rattle.rules.specs.Step.{stepOf}
 use Rattle.facts.specs.Whole.{rooms-low}
 use Rattle.drain.specs.Drains.{isDraining, drainedBy, isMade, steps, bound}
@@ -22,7 +22,7 @@ use Rattle.run.specs.Drains.{leftOf, IsLeft}
 
 -- on a table that is not well formed each event is refused, so none is a step
 refused-is : (t : Table) (e : Event) → wellFormed t ≡ false → stepOf t e ≡ answer TABLE t
-unfolding stepOf refusal refusals first
+unfolding stepOf refusal refusalAs first
 refused-is t e h = rw h refl
 
 module _ (t : Table) (h : wellFormed t ≡ false) where

@@ -35,7 +35,7 @@ pub drained-decided : (t : Table) (events : List Event) (r s : Drained) → IsDr
 drained-decided t events r s p q =
     λ i. record { table = decided (p .after) (q .after) i; steps = decided (p .accepted) (q .accepted) i }
 
--- the steps that a table can have left; a table that is not well formed has none
+-- the bound of a well formed table; 0 of another
 unfoldable pub leftOf : Table → ℕ
 leftOf t = if wellFormed t then bound t else 0
 

@@ -67,8 +67,8 @@ pub fn drain(t: Table, events: &[u8]) -> Drained
     }
 }
 
-// How many deliveries and hand-backs can still be accepted at most: 3n² + 8n + m with m messages on the wires, and none where the table
-// is not well formed.
+// 3n² + 8n + m with m messages on the wires: from a table that events led to from a fresh one no more deliveries and hand-backs are
+// accepted. 0 where the table is not well formed: then none is.
 pub fn steps_left(t: Table) -> usize
     ensures { λ r. ⌜ IsLeft t r ⌝ }
 {

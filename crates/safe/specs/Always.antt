@@ -16,7 +16,7 @@ use Rattle.table.specs.Oldest.{oldestOf}
 use Rattle.table.specs.Formed.{wellFormed}
 use Rattle.rules.specs.declared.Event.{Event}
 use Rattle.rules.specs.Events.{HANDBACK, DELIVER}
-use Rattle.rules.specs.Refusals.{first, refusals, refusal, isFound}
+use Rattle.rules.specs.Refusals.{first, refusalAs, refusal, isFound}
 use Rattle.rules.specs.Step.{stepOf}
 use Rattle.base.specs.Lists.{mem-at}
 use Rattle.facts.specs.Search.{oldest-low, oldest-there}
@@ -69,7 +69,7 @@ module _ (n : ℕ) (t : Table) (r : Reached n t) where
   -- a delivery on a wire with a message is accepted
   pub delivery-accepted : (e : Event) → e .kind ≡ DELIVER → (k : ℕ) (m : Message) → oldestOf t (e .room) (e .other) ≡ found.At k m
       → stepOf t e .«number» ≡ DONE
-  unfolding refusal refusals first isFound
+  unfolding refusal refusalAs first isFound
   delivery-accepted e kind k m h = step-goes n t safe e (rw (reached-formed, kind, h, inside .0, inside .1) refl) .0
     where
       inside : (leb (t .n) (e .room) ≡ false) × (leb (t .n) (e .other) ≡ false)
@@ -81,7 +81,7 @@ module _ (n : ℕ) (t : Table) (r : Reached n t) where
   -- a hand-back by a room that holds and does not wait is accepted
   pub hand-back-accepted : (e : Event) → e .kind ≡ HANDBACK → e .room < n → roomAt t (e .room) .held ≢ 0 → roomAt t (e .room) .wanted ≡ 0
       → stepOf t e .«number» ≡ DONE
-  unfolding refusal refusals first
+  unfolding refusal refusalAs first
   hand-back-accepted e kind low holds idle =
       step-goes n t safe e
       (rw (reached-formed, kind, lt-leb (t .n) (e .room) (omega (arith, safe .rooms)), idle, ne-eqb (roomAt t (e .room) .held) 0 holds) refl) .0

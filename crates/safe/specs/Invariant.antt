@@ -19,9 +19,9 @@ pub record Clauses (n : ℕ) (rooms : ℕ → Room) (queue : List Queued) (messa
   pub links : Links n rooms messages
   -- SENDER: what a TOKEN under way says of its sender
   pub sender : Sender rooms messages
-  -- SMALL: what is lent is none, IR, R or IW
+  -- SMALL: what is lent is none, IR, R or IW; a REDUCE goes to none or IR
   pub small : Small n rooms messages
-  -- PAIRS: the modes of one room agree
+  -- PAIRS: the modes of one room agree, and with those of a TOKEN under way to it
   pub pairs : Pairs n rooms messages
   -- FITS: what a room owns is under what is granted to it
   pub fits : Fits rooms messages
@@ -41,7 +41,8 @@ pub record Invariant (n : ℕ) (rooms : ℕ → Room) (queue : List Queued) (mes
   pub clauses : Clauses n rooms queue messages 0
   -- EXACT: a room without the token owes exactly what it owns
   pub exact : Exact n rooms
-  -- LIGHT: a room that waits for IR owns at most IR, or is blocked by the head of the queue
+  -- LIGHT: a room that waits for IR owns none or IR, or has the token and the head of the queue conflicts with what it owns
   pub light : Light n rooms queue
-  -- SERVED: nobody waits in the queue who could be served
+  -- SERVED: at the room with the token a waiting upgrade has an entry left; with none waiting the head of the queue conflicts with what the
+  -- room owns
   pub served : Served n rooms queue

@@ -16,7 +16,7 @@ use Rattle.table.specs.Numbers.{DONE, ROOM, TABLE, EVENT}
 use Rattle.table.specs.Tables.{answer, freshTable, blankTable, freshOf}
 use Rattle.table.specs.Formed.{sizesFit, wellFormed}
 use Rattle.rules.specs.declared.Event.{Event}
-use Rattle.rules.specs.Refusals.{first, refusals, refusal}
+use Rattle.rules.specs.Refusals.{first, refusalAs, refusal}
 use Rattle.rules.specs.Step.{stepOf}
 use Rattle.kept.specs.Fresh.{fresh-has}
 use Rattle.kept.specs.Kept.{step-lawful}
@@ -25,7 +25,7 @@ use Rattle.reading.specs.declared.Command.the-variants as command
 use Rattle.reading.specs.Lines.{commandOf}
 use Rattle.writing.specs.Written.{lineLimit}
 use Rattle.session.specs.declared.Turned.{Turned}
-use Rattle.session.specs.Turns.{begun, unread, obeyed, answerTo, turnedOf}
+use Rattle.session.specs.Turns.{begun, unread, obeyedBy, obeyed, answerTo, turnedOf}
 use Rattle.session.specs.Known.{Known}
 
 -- an answer with such a table
@@ -43,7 +43,7 @@ fresh-known n a e =
 
 -- a step on a table that is not well formed leaves it
 refused : (t : Table) (e : Event) → wellFormed t ≡ false → stepOf t e .table ≡ t
-unfolding stepOf refusal refusals first
+unfolding stepOf refusal refusalAs first
 refused t e h = simp h
 
 module _ (t : Table) (k : Known t) where
@@ -71,7 +71,7 @@ module _ (t : Table) (k : Known t) where
   unread-known = by-test Gives (eqb (t .n) 0) (answer TABLE t) (answer EVENT t) (λ e. k) (λ e. k)
 
   obeyed-known : (c : Command) → Gives (obeyed t c)
-  unfolding obeyed
+  unfolding obeyedBy
   obeyed-known command.Other = unread-known
   obeyed-known (command.Fresh n) = begun-known (freshOf n) (fresh-known n (freshOf n) refl)
   obeyed-known (command.Make e) = step-known e

@@ -16,7 +16,7 @@ use Rattle.reading.specs.declared.Command.{Command}
 use Rattle.reading.specs.declared.Command.the-variants as command
 use Rattle.reading.specs.Lines.{commandOf}
 use Rattle.writing.specs.Written.{lineLimit, lengthOf, writtenOf}
-use Rattle.session.specs.Turns.{begun, unread, obeyed, answerTo, obeyedAs, answerAs, turnedOf, Leaves}
+use Rattle.session.specs.Turns.{begun, unread, obeyedBy, obeyed, answerTo, obeyedAs, answerAs, turnedOf, Leaves}
 
 module _ (t : Table) where
   pub unread-blank : t .n ≡ 0 → answer 1 t ≡ unread t
@@ -42,15 +42,15 @@ module _ (t : Table) where
     Obeys = (r ≡ obeyedAs formed t c) × (formed ≡ wellFormed t → r ≡ obeyed t c)
 
     pub obeyed-other : c ≡ command.Other → r ≡ unread t → Obeys
-    unfolding obeyed obeyedAs
+    unfolding obeyedBy
     obeyed-other e p = (rw e p, λ right. rw e p)
 
     pub obeyed-fresh : (n : ℕ) → c ≡ command.Fresh n → r ≡ begun t (freshOf n) → Obeys
-    unfolding obeyed obeyedAs
+    unfolding obeyedBy
     obeyed-fresh n e p = (rw e p, λ right. rw e p)
 
     pub obeyed-make : (e : Event) → c ≡ command.Make e → r ≡ stepAs formed t e → (formed ≡ wellFormed t → r ≡ stepOf t e) → Obeys
-    unfolding obeyed obeyedAs
+    unfolding obeyedBy
     obeyed-make e q p h = (rw q p, λ right. rw q (h right))
 
   module _ (a : Answer) (out : List ℕ) where

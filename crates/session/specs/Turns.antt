@@ -10,6 +10,7 @@ use Rattle.table.specs.declared.Table.{Table}
 use Rattle.table.specs.declared.Answer.{Answer}
 use Rattle.table.specs.Numbers.{DONE, TABLE, EVENT}
 use Rattle.table.specs.Tables.{answer, freshOf}
+use Rattle.rules.specs.declared.Event.{Event}
 use Rattle.rules.specs.Step.{stepOf}
 use Rattle.step.specs.Writes.{stepAs}
 use Rattle.session.specs.declared.Turned.{Turned}
@@ -26,20 +27,22 @@ begun t a = if eqb (a .«number») DONE then a else answer (a .«number») t
 unfoldable pub unread : Table → Answer
 unread t = if eqb (t .n) 0 then answer TABLE t else answer EVENT t
 
-unfoldable pub obeyed : Table → Command → Answer
-obeyed t command.Other = unread t
-obeyed t (command.Fresh n) = begun t (freshOf n)
-obeyed t (command.Make e) = stepOf t e
+-- what a line asks for, with the step that an event makes
+unfoldable pub obeyedBy : (Event → Answer) → Table → Command → Answer
+obeyedBy step t command.Other = unread t
+obeyedBy step t (command.Fresh n) = begun t (freshOf n)
+obeyedBy step t (command.Make e) = step e
+
+abbrev pub obeyed : Table → Command → Answer
+obeyed t c = obeyedBy (stepOf t) t c
 
 -- the number and the table that a line gives
 unfoldable pub answerTo : Table → List ℕ → Answer
 answerTo t line = obeyed t (commandOf line)
 
 -- the same where it is told whether the table is well formed
-unfoldable pub obeyedAs : Bool → Table → Command → Answer
-obeyedAs formed t command.Other = unread t
-obeyedAs formed t (command.Fresh n) = begun t (freshOf n)
-obeyedAs formed t (command.Make e) = stepAs formed t e
+abbrev pub obeyedAs : Bool → Table → Command → Answer
+obeyedAs formed t c = obeyedBy (stepAs formed t) t c
 
 unfoldable pub answerAs : Bool → Table → List ℕ → Answer
 answerAs formed t line = obeyedAs formed t (commandOf line)

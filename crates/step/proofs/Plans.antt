@@ -26,7 +26,7 @@ use Rattle.rules.specs.declared.Event.{Event}
 use Rattle.rules.specs.Events.{isAsk, isUpgrade, isHandBack, isDeliver}
 use Rattle.rules.specs.Work.{Work, workAt}
 use Rattle.rules.specs.Rules.{ask, upgrade, handBack, receive}
-use Rattle.rules.specs.Refusals.{refusal, refusal-told}
+use Rattle.rules.specs.Refusals.{refusal}
 use Rattle.rules.specs.Step.{outcome, delivered, made, stepOf}
 use Rattle.act.specs.Desk.{outLimit}
 use Rattle.act.specs.Done.{doneOf}
@@ -135,8 +135,8 @@ module _ (t : Table) (s : Shaped t) (e : Event) where
 
   -- the plan, where it is told rightly whether the table is well formed, is one for the step
   pub plans-of : (p : Plan) → p ≡ planAs (wellFormed t) t e → length (p .done .out) ≡ outLimit → Plans t e p
-  unfolding planAs
+  unfolding planAs refusal
   plans-of p q long =
       split (eqb (refusal t e) 0)
-      (λ z. let same : p ≡ doing t e = q ∙ simp (refusal-told t e, z) in rw same (doing-plans (eqb-true _ _ z) (rw same at long)))
-      (λ z. let same : p ≡ refusedPlan (refusal t e) = q ∙ simp (refusal-told t e, z) in rw same (refused-plans (refusal t e) refl (λ n. absurd (eqb-false _ _ z n))))
+      (λ z. let same : p ≡ doing t e = q ∙ simp z in rw same (doing-plans (eqb-true _ _ z) (rw same at long)))
+      (λ z. let same : p ≡ refusedPlan (refusal t e) = q ∙ simp z in rw same (refused-plans (refusal t e) refl (λ n. absurd (eqb-false _ _ z n))))

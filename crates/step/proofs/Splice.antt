@@ -16,11 +16,13 @@ use Rattle.table.specs.declared.Wire.{Wire}
 use Rattle.table.specs.declared.Queued.{Queued}
 use Rattle.table.specs.Limits.{queueLimit, wireLimit}
 use Rattle.table.specs.Tables.{noWire, noQueued, messagesOf}
+use Rattle.rules.specs.Work.{Work}
 use Rattle.rules.specs.Step.{after}
 use Rattle.act.specs.Desk.{placeLimit, outLimit}
 use Rattle.act.specs.declared.Done.{Done}
+use Rattle.act.specs.Done.{doneOf}
 use Rattle.plan.specs.declared.Plan.{Plan}
-use Rattle.step.specs.Writes.{without, Takes, inUse, wiresAfter, writtenOf, Writes}
+use Rattle.step.specs.Writes.{without, Takes, inUse, wiresAfter, writtenOf}
 
 -- an element of two lists in a row, past the first
 getD-right : (xs ys : List Wire) (j : ℕ) → length xs ≤ j → getD (xs ++ ys) j noWire ≡ getD ys (j - length xs) noWire
@@ -256,6 +258,10 @@ written-is t p k long far room q i u m e short =
       wires = wires j;
       count = t .count - p .gap + p .done .sent;
     })
+
+-- u is the table after the work that was done, whichever it was
+abbrev Writes : Table → ℕ → ℕ → ℕ → Done → Table → Type 0
+Writes t me place gap d u = (w : Work) → w .me ≡ me → length (w .queue) ≤ queueLimit → d ≡ doneOf w → u ≡ after t (without t place gap) w
 
 -- it is the table after the work, where the places past those in use were blank
 pub written-writes : (t : Table) (p : Plan) (k : Takes t (p .me) (p .place) (p .gap)) (long : length (t .wires) ≡ wireLimit) (far : p .done .sent ≤ length (p .done .out))

@@ -1,4 +1,4 @@
--- How the code writes a step into the table: messages taken out of the array, and what was done put in.
+-- What step_untested answers, whatever it is told: how a plan ends, and the table with the plan written into it.
 use Prim.Native.Nat.{ℕ, _+_, _-_, _<_, _≤_}
 use mathlib.Core.Path.{_≡_}
 use mathlib.Core.Bool.{Bool, not, _&&_}
@@ -15,11 +15,8 @@ use Rattle.table.specs.Numbers.{DONE, WORN, FULL}
 use Rattle.table.specs.declared.Answer.{Answer}
 use Rattle.table.specs.Tables.{noWire, messagesOf, answer}
 use Rattle.rules.specs.declared.Event.{Event}
-use Rattle.rules.specs.Work.{Work}
-use Rattle.rules.specs.Step.{after}
 use Rattle.act.specs.Desk.{outLimit}
 use Rattle.act.specs.declared.Done.{Done}
-use Rattle.act.specs.Done.{doneOf}
 use Rattle.plan.specs.declared.Plan.{Plan}
 use Rattle.plan.specs.Plans.{placed, planAs}
 
@@ -27,17 +24,17 @@ use Rattle.plan.specs.Plans.{placed, planAs}
 abbrev pub without : Table → ℕ → ℕ → List Wire
 without t place gap = take place (messagesOf t) ++ drop (place + gap) (messagesOf t)
 
--- a message or none is taken out
+-- the room that acts has a place, and a message or none is taken from those in use
 pub record Takes (t : Table) (me place gap : ℕ) : Type 0 where
   pub one : gap ≤ 1
   pub low : place + gap ≤ t .count
   pub count : t .count ≤ wireLimit
   pub acts : me < roomLimit
 
--- a plan that is made takes out no more messages than there are
+-- a plan that is made takes out no more messages than there are, and there are no more than the wires hold
 pub record Sized (count : ℕ) (p : Plan) : Type 0 where
-  pub low : p .«number» ≡ 0 → p .gap ≤ count
-  pub high : p .«number» ≡ 0 → count ≤ wireLimit
+  pub low : p .«number» ≡ DONE → p .gap ≤ count
+  pub high : p .«number» ≡ DONE → count ≤ wireLimit
 
 -- what a plan takes out and sends fits the table
 pub record Fits (t : Table) (p : Plan) : Type 0 where
@@ -65,10 +62,6 @@ writtenOf t p =
       count = t .count - p .gap + p .done .sent;
     }
 
--- u is the table after the work that was done, whichever it was
-abbrev pub Writes : Table → ℕ → ℕ → ℕ → Done → Table → Type 0
-Writes t me place gap d u = (w : Work) → w .me ≡ me → length (w .queue) ≤ queueLimit → d ≡ doneOf w → u ≡ after t (without t place gap) w
-
 -- the number that is given back for a plan, on a table with so many messages
 unfoldable pub endingOf : ℕ → Plan → ℕ
 endingOf count p =
@@ -82,7 +75,7 @@ unfoldable pub endsIn : Table → Plan → Answer
 endsIn t p =
     if eqb (endingOf (t .count) p) DONE then answer DONE (writtenOf t p) else answer (endingOf (t .count) p) t
 
--- The step where it is told whether the table is well formed. Where that is right it is stepOf; where a table is wrongly told to be
--- well formed, its arrays are written as the plan says.
+-- The step where it is told whether the table is well formed. Told rightly, of a table as the code has it, it is stepOf. Told not, or with
+-- n or count past the arrays, it is TABLE; where a table is wrongly told to be well formed, its arrays are written as the plan says.
 unfoldable pub stepAs : Bool → Table → Event → Answer
 stepAs formed t e = endsIn t (planAs (formed && placed t) t e)

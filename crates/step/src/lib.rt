@@ -16,7 +16,7 @@ use table::numbers;
 use write::written;
 
 // The number that is given back for a plan on a table with so many messages: its own, WORN, FULL or DONE.
-// Only for the step, which is proved: a plan takes out no more messages than there are.
+// Only for step_untested, which is proved: a plan takes out no more messages than there are.
 fn ending(count: usize, p: Plan) -> u8
     requires { ⌜ Sized count p ⌝ }
     ensures { λ r. ⌜ r ≡ endingOf count p ⌝ }

@@ -34,7 +34,7 @@ fn later(a: usize, b: usize) -> usize
 }
 
 // The table after what room p.me did. Of the messages those at p.place, p.gap many, are taken out;
-// those behind close up, and what was sent follows. Only for step, which is proved: the plan fits the table and the wires.
+// those behind close up, and what was sent follows. Only for step_untested, which is proved: the plan fits the table and the wires.
 pub fn written(t: Table, p: Plan) -> Table
     requires { ⌜ Fits t p ⌝ }
     ensures { λ r. ⌜ r ≡ writtenOf t p ⌝ }

@@ -8,7 +8,7 @@ use Rattle.base.specs.Tests.{_implies_}
 use Rattle.base.specs.Below.{allBelow}
 use Rattle.base.specs.Sums.{one, countBelow}
 use Rattle.base.specs.Lists.{count}
-use Rattle.modes.specs.Codes.{IR, R, U, IW, W, isCode}
+use Rattle.modes.specs.Codes.{none, IR, R, U, IW, W, isCode}
 use Rattle.room.specs.declared.Room.{Room}
 use Rattle.room.specs.declared.Entry.{Entry}
 use Rattle.room.specs.Limits.{roomLimit, nobody}
@@ -32,8 +32,8 @@ sizesFit n queued count = leb 1 n && leb n roomLimit && leb queued queueLimit &&
 unfoldable pub entryFine : ℕ → ℕ → ℕ → Entry → Bool
 entryFine n c j e =
     isCode (e .mode)
-    && (eqb (e .mode) 0 implies eqb (e .link) 0)
-    && ((leb n j || eqb j c) implies eqb (e .mode) 0)
+    && (eqb (e .mode) none implies eqb (e .link) 0)
+    && ((leb n j || eqb j c) implies eqb (e .mode) none)
 
 -- the record of room c of n
 unfoldable pub roomFine : ℕ → ℕ → Room → Bool
@@ -50,27 +50,27 @@ roomFine n c r =
     -- "and so has a room without a lender" link number zero
     && (eqb (r .lender) nobody implies eqb (r .link) 0)
     -- "lender is nobody exactly when credit is none"
-    && Bool·beq (eqb (r .lender) nobody) (eqb (r .credit) 0)
+    && Bool·beq (eqb (r .lender) nobody) (eqb (r .credit) none)
     -- "the room with the token has no lender"
     && (r .token implies eqb (r .lender) nobody)
     -- "U and W are held only with the token"
     && ((eqb (r .held) U || eqb (r .held) W) implies r .token)
     -- "held and wanted together only as U and W (an upgrade)"
-    && (eqb (r .held) 0 || eqb (r .wanted) 0 || eqb (r .held) U && eqb (r .wanted) W)
+    && (eqb (r .held) none || eqb (r .wanted) none || eqb (r .held) U && eqb (r .wanted) W)
     && allBelow roomLimit (λ j. entryFine n c j (entryAt r j))
 
 -- "Records of rooms n and above .. are all none or zero"
 unfoldable pub isBlankEntry : Entry → Bool
-isBlankEntry e = eqb (e .mode) 0 && eqb (e .link) 0
+isBlankEntry e = eqb (e .mode) none && eqb (e .link) 0
 
 unfoldable pub isBlankRoom : Room → Bool
 isBlankRoom r =
-    eqb (r .held) 0 && eqb (r .wanted) 0 && not (r .token) && eqb (r .toward) 0 && eqb (r .lender) nobody && eqb (r .credit) 0
+    eqb (r .held) none && eqb (r .wanted) none && not (r .token) && eqb (r .toward) 0 && eqb (r .lender) nobody && eqb (r .credit) none
     && eqb (r .link) 0 && eqb (r .counter) 0 && allBelow roomLimit (λ j. isBlankEntry (entryAt r j))
 
 -- the mode that a waiting room without an upgrade waits for; none for any other
 unfoldable pub due : Room → ℕ
-due r = if eqb (r .held) 0 then r .wanted else 0
+due r = if eqb (r .held) none then r .wanted else none
 
 -- Below, `rooms` gives each room's record.
 
@@ -79,7 +79,7 @@ unfoldable pub queuedFine : ℕ → (ℕ → Room) → Queued → Bool
 queuedFine n rooms q = ltb (q .room) n && isMode (q .mode) && eqb (due (rooms (q .room))) (q .mode)
 
 unfoldable pub isBlankQueued : Queued → Bool
-isBlankQueued q = eqb (q .room) 0 && eqb (q .mode) 0
+isBlankQueued q = eqb (q .room) 0 && eqb (q .mode) none
 
 -- "GRANT modes only IR, R, IW, other message modes not none except the remaining mode and REDUCE"
 unfoldable pub messageFine : ℕ → Message → Bool

@@ -5,6 +5,7 @@ use mathlib.Core.List.{List}
 use lib.ListN.{getD, set, replicate, take}
 use lib.Dec.{leb}
 use Rattle.base.specs.Choice.{if_then_else_}
+use Rattle.modes.specs.Codes.{none}
 use Rattle.room.specs.declared.Room.{Room}
 use Rattle.room.specs.Limits.{roomLimit}
 use Rattle.room.specs.Record.{noRoom, blankRoom, withToken}
@@ -21,7 +22,7 @@ abbrev pub noWire : Wire
 noWire = record { «from» = 0; to = 0; message = msg.Nothing }
 
 abbrev pub noQueued : Queued
-noQueued = record { room = 0; mode = 0 }
+noQueued = record { room = 0; mode = none }
 
 abbrev pub roomAt : Table → ℕ → Room
 roomAt t c = getD (t .rooms) c noRoom

@@ -82,7 +82,7 @@ fn laid(n: u8, rooms: [Room; ROOMS]) -> Table
     }
 }
 
-// A fresh table of n rooms.
+// A fresh table of n rooms; 3 and a table of no rooms where n is 0 or above 16.
 pub fn fresh(n: u8) -> Answer
     ensures { λ r. ⌜ r ≡ freshOf n ⌝ }
 {

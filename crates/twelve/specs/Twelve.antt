@@ -24,7 +24,7 @@ use Rattle.rules.specs.declared.Event.{Event}
 use Rattle.rules.specs.Events.{ASK, UPGRADE, HANDBACK, DELIVER}
 use Rattle.rules.specs.Work.{send, join, sendOut}
 use Rattle.rules.specs.Rules.{hold, want, lend, pass, settle, upgradeWaits, upgraded, serveQueue, serve, settleOrServe, isEmpty, askWith, askWithout, ask, upgrade, handBack, takeRequest, receive}
-use Rattle.rules.specs.Refusals.{first, isFound, anyWorn, refusals, refusal}
+use Rattle.rules.specs.Refusals.{first, isFound, anyWorn, refusalAs, refusal}
 use Rattle.rules.specs.Step.{after, outcome, delivered, made, stepOf, runs}
 
 -- the events, as numbers
@@ -90,7 +90,7 @@ allHold [] = true
 allHold (b ∷ bs) = b && allHold bs
 
 pub twelve-hold : allHold twelve ≡ true
-unfolding allHold twelve runs lentTable lending freshOf freshTable blankTable stepOf made delivered outcome after refusal refusals first isFound anyWorn oldestOf oldestIn
+unfolding allHold twelve runs lentTable lending freshOf freshTable blankTable stepOf made delivered outcome after refusal refusalAs first isFound anyWorn oldestOf oldestIn
     wellFormed sizesFit roomsFine queueFine wiresFine namesFine roomFine entryFine isBlankRoom isBlankEntry due queuedFine isBlankQueued messageFine namesRightly wireFine isNothing isBlankWire isToken tokens isNamedIn names
     ask askWith askWithout upgrade handBack settleOrServe serve serveQueue upgraded upgradeWaits settle pass lend hold want isEmpty takeRequest receive send join sendOut
     nextLink isWorn lentTo lent left remaining passedTo passed credited settled leaving granted lifted tokenedBy tokened reduced entryOf larger strongest owned hasNoEntries

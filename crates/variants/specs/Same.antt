@@ -13,7 +13,7 @@ use Rattle.table.specs.Formed.{wellFormed}
 use Rattle.rules.specs.declared.Event.{Event}
 use Rattle.rules.specs.Work.{Work, workAt}
 use Rattle.rules.specs.Rules.{ask, handBack, receive}
-use Rattle.rules.specs.Refusals.{refusals, refusal, refusalAs}
+use Rattle.rules.specs.Refusals.{refusal, refusalAs}
 use Rattle.rules.specs.Step.{outcome, delivered, made, stepOf}
 use Rattle.variants.specs.Step.{Rules, deliveredBy, madeBy, stepBy}
 
@@ -40,5 +40,5 @@ module _ (r : Rules) (same : Right r) where
 
   -- where the test that is left out is passed
   pub same-step : (t : Table) (e : Event) → wellFormed t ≡ true → stepBy r t e ≡ stepOf t e
-  unfolding stepBy stepOf refusal refusals refusalAs
+  unfolding stepBy stepOf refusal refusalAs
   same-step t e formed = rw (formed, same-made t e) refl
