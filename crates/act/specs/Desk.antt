@@ -25,7 +25,7 @@ use Rattle.act.specs.declared.desk.Choice.the-variants as choice
 abbrev pub placeLimit : ℕ
 placeLimit = queueLimit + 1
 
--- the messages that one step can send: one for each place, and two
+-- room for the messages of one step: with the token one for each place at most, without it a loan and a REDUCE; two to spare
 abbrev pub outLimit : ℕ
 outLimit = placeLimit + 2
 

@@ -16,6 +16,7 @@ use crate::desk::want;
 use table::Message;
 
 // The room has the token: it holds m, or waits at the end of the queue.
+// Only for ask, which is proved: the desk is as lay_out lays it.
 fn ask_with(d: Desk, m: u8) -> Desk
     requires { ⌜ Starts d ⌝ }
     ensures { λ r. ⌜ Ends r (rules.askWith (workOf d) m) ⌝ }
@@ -31,6 +32,7 @@ fn ask_with(d: Desk, m: u8) -> Desk
 }
 
 // The room has not: it takes m under what it owns, or sends a REQUEST.
+// Only for ask, which is proved: the desk is as lay_out lays it.
 fn ask_without(d: Desk, m: u8) -> Desk
     requires { ⌜ Starts d ⌝ }
     ensures { λ r. ⌜ Ends r (rules.askWithout (workOf d) m) ⌝ }
@@ -77,6 +79,7 @@ pub fn upgrade(d: Desk) -> Desk
 }
 
 // What a room whose modes have changed does next.
+// Only for hand_back and receive, which are proved: a place is left for a message to each that waits, and one at least.
 fn settle_or_serve(d: Desk) -> Desk
     requires { ⌜ Ready d × (d .sent < outLimit) ⌝ }
     ensures { λ r. ⌜ Ends r (rules.settleOrServe (workOf d)) ⌝ }
@@ -111,6 +114,7 @@ fn lends_on(d: Desk, o: u8, m: u8, idle: bool) -> bool
 }
 
 // A REQUEST arrives.
+// Only for receive, which is proved: the desk is as lay_out lays it.
 fn take_request(d: Desk, o: u8, m: u8, idle: bool) -> Desk
     requires { ⌜ Starts d ⌝ }
     ensures { λ r. ⌜ Ends r (rules.takeRequest (workOf d) o m idle) ⌝ }

@@ -134,6 +134,7 @@ pub fn lend(mut d: Desk, y: u8, m: u8) -> Desk
 }
 
 // Pass the token to y.
+// Only for carried_out, which is proved: a place is left for the TOKEN.
 fn pass(mut d: Desk, y: u8, m: u8) -> Desk
     requires { ⌜ d .sent < outLimit ⌝ }
     ensures { λ r. ⌜ Sends d r (rules.pass (workOf d) y m) ⌝ }
@@ -220,6 +221,7 @@ fn carried_out(d: Desk, choice: Choice, q: Queued) -> Turned
 }
 
 // One turn of serving: the head of the queue, if it can be taken off.
+// Only for serve, which is proved: a place is left for a message to each that waits.
 fn turn(mut d: Desk) -> Turned
     requires { ⌜ Ready d ⌝ }
     ensures { λ r. ⌜ Turns d (r .1) (r .0) ⌝ }

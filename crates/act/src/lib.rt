@@ -18,7 +18,7 @@ use table::Wire;
 
 // The places of a queue while a room acts: one may join a full one.
 pub const PLACES: usize = QUEUE + 1;
-// The messages that a room can send in one step: one for each place, and a loan and a REDUCE, or a REDUCE alone, beside them.
+// Room for the messages of one step: with the token one for each place at most, without it a loan and a REDUCE. Two to spare.
 pub const OUTBOX: usize = PLACES + 2;
 
 // A room before it acts, and the queue.
@@ -65,6 +65,7 @@ fn lay_out(s: Start) -> Desk
 }
 
 // What the desk holds, with the queue from its first place on.
+// Only for the events below, which are proved: the places of the desk are in order, and its outbox is blank past what was sent.
 fn tidy(d: Desk) -> Done
     requires { ⌜ Ends d (workOf d) ⌝ }
     ensures { λ r. ⌜ r ≡ doneOf (workOf d) ⌝ }

@@ -35,11 +35,12 @@ fn times_due(due: u8) -> usize
 {
     match due {
         modes::NONE => 0,
-        1..=255 => 1,
+        modes::IR..=255 => 1,
     }
 }
 
 // Whether each of n rooms is named once if it waits, else never.
+// Only for well_formed, which is proved: the sizes fit.
 fn times_fine(n: u8, rooms: [Standing; ROOMS], times: [usize; ROOMS]) -> bool
     requires { ⌜ n ≤ roomLimit ⌝ }
     ensures { λ b. ⌜ b ≡ timesFine n rooms times ⌝ }

@@ -86,6 +86,7 @@ fn refused(number: u8) -> Plan
 }
 
 // ASK.
+// Only for planned, which is proved: the kind is known and the table has the room.
 fn ask(t: Table, e: Event) -> Plan
     requires { ⌜ Begins t e events.ASK ⌝ }
     ensures { λ p. ⌜ p ≡ planAs true t e ⌝ }
@@ -126,6 +127,7 @@ fn ask(t: Table, e: Event) -> Plan
 }
 
 // UPGRADE.
+// Only for planned, which is proved: the kind is known and the table has the room.
 fn upgrade(t: Table, e: Event) -> Plan
     requires { ⌜ Begins t e events.UPGRADE ⌝ }
     ensures { λ p. ⌜ p ≡ planAs true t e ⌝ }
@@ -149,6 +151,7 @@ fn upgrade(t: Table, e: Event) -> Plan
 }
 
 // HANDBACK.
+// Only for planned, which is proved: the kind is known and the table has the room.
 fn hand_back(t: Table, e: Event) -> Plan
     requires { ⌜ Begins t e events.HANDBACK ⌝ }
     ensures { λ p. ⌜ p ≡ planAs true t e ⌝ }
@@ -172,6 +175,7 @@ fn hand_back(t: Table, e: Event) -> Plan
 }
 
 // DELIVER.
+// Only for planned, which is proved: the kind is known and the table has the room.
 fn deliver(t: Table, e: Event) -> Plan
     requires { ⌜ Begins t e events.DELIVER ⌝ }
     ensures { λ p. ⌜ p ≡ planAs true t e ⌝ }

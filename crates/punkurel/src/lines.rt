@@ -3,6 +3,8 @@ ghost use mathlib.Core.Path.{_≡_};
 ghost use Prim.Native.Nat.{_+_, _≤_};
 ghost use lib.ListN.{length};
 ghost use Rattle.session.specs.Known.{Known};
+ghost use Rattle.writing.specs.Written.{lineLimit};
+ghost use Rattle.punkurel.specs.Kept.{keptLimit};
 use libc::STDOUT_FILENO;
 use session::Turned;
 use table::Table;
@@ -48,7 +50,7 @@ pub fn start() -> Talk
 
 // The line with a piece more.
 fn with(b: Begun, piece: &[u8]) -> Begun
-    ensures { λ r. ⌜ length (r .bytes) ≡ 65 ⌝ }
+    ensures { λ r. ⌜ length (r .bytes) ≡ keptLimit ⌝ }
 {
     let mut bytes = b.bytes;
     let mut n = b.length;
@@ -78,6 +80,7 @@ fn least(a: usize, b: usize) -> usize
 }
 
 // The turn for a line that is whole as it has begun.
+// Only for proved callers in this module: the table is one that the session made.
 fn turn_whole(t: Table, b: Begun, out: &mut [u8]) -> Turned
     requires { ⌜ Known t ⌝ }
     ensures { λ r. ⌜ Known (r .table) ⌝ }
@@ -88,6 +91,7 @@ fn turn_whole(t: Table, b: Begun, out: &mut [u8]) -> Turned
 }
 
 // The turn for a line whose last piece has come.
+// Only for take, which is proved: the table is one that the session made.
 fn turn(t: Table, b: Begun, piece: &[u8], out: &mut [u8]) -> Turned
     requires { ⌜ Known t ⌝ }
     ensures { λ r. ⌜ Known (r .table) ⌝ }
@@ -105,6 +109,7 @@ pub struct Pen {
 }
 
 // Whether what was answered could be written; after a write that failed no other is made, so that nothing is left out in between.
+// Only for proved callers in this module: the pen is not past the end of out.
 fn flushed(out: &[u8], pen: Pen) -> bool
     requires { ⌜ pen .at ≤ length (now out) ⌝ }
 {
@@ -116,9 +121,10 @@ fn flushed(out: &[u8], pen: Pen) -> bool
 }
 
 // The pen behind an answer of n bytes, with room for another answer.
+// Only for take, which is proved: out has room for an answer at the pen.
 fn moved(out: &[u8], pen: Pen, n: usize) -> Pen
-    requires { ⌜ pen .at + 64 ≤ length (now out) ⌝ }
-    ensures { λ r. ⌜ r .at + 64 ≤ length (now (out .entry)) ⌝ }
+    requires { ⌜ pen .at + lineLimit ≤ length (now out) ⌝ }
+    ensures { λ r. ⌜ r .at + lineLimit ≤ length (now (out .entry)) ⌝ }
 {
     let at = pen.at + least(n, LINE);
     let next = Pen {
@@ -135,7 +141,7 @@ fn moved(out: &[u8], pen: Pen, n: usize) -> Pen
 // The answers of all lines that are whole now, written out; the rest is kept.
 // Only for main, which is proved: out holds an answer at least, and the table is one that the session made.
 pub fn take(mut talk: Talk, chunk: &[u8], out: &mut [u8]) -> Talk
-    requires { ⌜ 64 ≤ length (now out) ⌝ }
+    requires { ⌜ lineLimit ≤ length (now out) ⌝ }
     requires { ⌜ Known (talk .table) ⌝ }
     ensures { λ r. ⌜ Known (r .table) ⌝ }
 {
@@ -163,7 +169,7 @@ pub fn take(mut talk: Talk, chunk: &[u8], out: &mut [u8]) -> Talk
 // The input has ended: the last line is answered, where it lacks its feed.
 // Only for main, which is proved: out holds an answer at least, and the table is one that the session made.
 pub fn end(talk: Talk, out: &mut [u8])
-    requires { ⌜ 64 ≤ length (now out) ⌝ }
+    requires { ⌜ lineLimit ≤ length (now out) ⌝ }
     requires { ⌜ Known (talk .table) ⌝ }
 {
     let begun = talk.begun;

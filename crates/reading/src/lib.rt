@@ -23,9 +23,8 @@ fn digit(b: u8) -> u8
     ensures { λ r. ⌜ r ≡ digitOf b ⌝ }
 {
     match b {
-        0..=47 => NO_NUMBER,
-        48..=57 => b - 48,
-        58..=255 => NO_NUMBER,
+        b'0'..=b'9' => b - b'0',
+        _ => NO_NUMBER,
     }
 }
 
@@ -136,16 +135,18 @@ fn asking(x: u8, m: u8) -> Command
     if x == NO_NUMBER {
         return Command::Other;
     }
-    if m == modes::NONE {
-        return Command::Other;
+    match m {
+        modes::NONE => Command::Other,
+        modes::IR..=255 => {
+            let event = Event {
+                kind: ASK,
+                room: x,
+                other: 0,
+                mode: m,
+            };
+            Command::Make { event: event }
+        }
     }
-    let event = Event {
-        kind: ASK,
-        room: x,
-        other: 0,
-        mode: m,
-    };
-    Command::Make { event: event }
 }
 
 // `d 0 1`.

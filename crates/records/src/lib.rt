@@ -155,7 +155,7 @@ fn standing_of(r: Room) -> Standing
             due: r.wanted,
             token: r.token,
         },
-        1..=255 => Standing {
+        IR..=255 => Standing {
             due: NONE,
             token: r.token,
         },

@@ -22,6 +22,10 @@ use Rattle.rules.specs.Step.{stepOf, runs}
 use Rattle.bounds.specs.Bounds.{mostMessages}
 use Rattle.safe.specs.Reached.{Reached, Demand3}
 
+-- the bytes of an event: its kind, room, other and mode
+abbrev pub eventBytes : ℕ
+eventBytes = 4
+
 -- events in bytes, four for each: kind, room, other and mode; what is left at the end is no event
 unfoldable pub eventsOf : List ℕ → List Event
 eventsOf [] = []

@@ -69,7 +69,7 @@ fn event(c: Command) -> Event {
     }
 }
 
-// What a command gives back: an event, or a fresh table, which is one where it is asked for; 0 with a table that is changed by hand.
+// What a command gives back: the answer to an event, or a fresh table; 0 with a table that is changed by hand.
 fn answer(t: Table, wire: usize, c: Command) -> Answer {
     let word = c.word;
     match word {

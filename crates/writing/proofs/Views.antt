@@ -55,11 +55,11 @@ pub record Seen (t : Table) (i : ℕ) (held : List ℕ) (token : ℕ) : Type 0 w
   pub modes : held ≡ padded roomLimit 0 (map (λ r. r .held) (take i (t .rooms)))
   pub room : token ≡ tokenRoom (take i (t .rooms))
 
-pub seen-none : (t : Table) → Seen t 0 (replicate 16 0) 0
+pub seen-none : (t : Table) → Seen t 0 (replicate roomLimit 0) 0
 unfolding padded tokenRoom
 seen-none t = record { modes = refl; room = refl }
 
-module _ (t : Table) {vs : List Val} (g : Is tables.the-row t vs) (n : ℕ) (e : n ≡ min (t .n) 16) where
+module _ (t : Table) {vs : List Val} (g : Is tables.the-row t vs) (n : ℕ) (e : n ≡ min (t .n) roomLimit) where
   long : length (t .rooms) ≡ roomLimit
   long = rooms-long t g
 
@@ -89,8 +89,8 @@ module _ (t : Table) {vs : List Val} (g : Is tables.the-row t vs) (n : ℕ) (e :
       let c : token ≡ tokenRoom (used t) = s .room ∙ ap (λ (j : ℕ). tokenRoom (take j (t .rooms))) same ∙ ap tokenRoom rest in
       λ j. record { rooms = k j; token = c j; count = t .count; held = m j }
     where
-      over : (k : ℕ) (rs : List Room) → length rs ≡ 16 → 16 < k → take (min k 16) rs ≡ take k rs
-      over k rs l h = let m : min k 16 ≡ 16 = omega arith in ap (λ (j : ℕ). take j rs) m ∙ take-all 16 rs (omega arith) ∙ sym (take-all k rs (omega arith))
+      over : (k : ℕ) (rs : List Room) → length rs ≡ roomLimit → roomLimit < k → take (min k roomLimit) rs ≡ take k rs
+      over k rs l h = let m : min k roomLimit ≡ roomLimit = omega arith in ap (λ (j : ℕ). take j rs) m ∙ take-all roomLimit rs (omega arith) ∙ sym (take-all k rs (omega arith))
 
-      cut : (k : ℕ) (rs : List Room) → length rs ≡ 16 → take (min k 16) rs ≡ take k rs
-      cut k rs l = split (leb k 16) (λ p. let low = leb-true k 16 p in let m : min k 16 ≡ k = omega arith in ap (λ (j : ℕ). take j rs) m) (λ p. over k rs l (leb-false k 16 p))
+      cut : (k : ℕ) (rs : List Room) → length rs ≡ roomLimit → take (min k roomLimit) rs ≡ take k rs
+      cut k rs l = split (leb k roomLimit) (λ p. let low = leb-true k roomLimit p in let m : min k roomLimit ≡ k = omega arith in ap (λ (j : ℕ). take j rs) m) (λ p. over k rs l (leb-false k roomLimit p))

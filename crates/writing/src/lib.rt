@@ -3,9 +3,11 @@ ghost use mathlib.Core.Path.{_≡_};
 ghost use Prim.Native.Nat.{_+_, _≤_, min};
 ghost use mathlib.Core.List.{_∷_, map};
 ghost use lib.ListN.{length, take};
+ghost use Rattle.base.specs.Letters.{space};
+ghost use Rattle.room.specs.Limits.{roomLimit};
 ghost use Rattle.writing.specs.Answers.{modeText, spaced};
 ghost use Rattle.writing.specs.Written.{lengthOf, writtenOf};
-ghost use Rattle.writing.specs.Words.{spelled, laid, viewOf, texts, tokenAfter};
+ghost use Rattle.writing.specs.Words.{spacedLimit, modesLimit, viewLimit, spelled, laid, viewOf, texts, tokenAfter};
 
 mod words;
 
@@ -33,8 +35,9 @@ fn least(a: usize, b: usize) -> usize
 }
 
 // The first room that has the token among rooms 0 to i, where c is that among those before i, and i where none of them has.
+// Only for seen, which is proved: i is no more than the rooms that there can be.
 fn token_after(c: usize, i: usize, has: bool) -> usize
-    requires { ⌜ i ≤ 16 ⌝ }
+    requires { ⌜ i ≤ roomLimit ⌝ }
     ensures { λ r. ⌜ r ≡ tokenAfter c i has ⌝ }
 {
     if c != i {
@@ -69,18 +72,20 @@ fn seen(t: Table) -> View
 }
 
 // A space and a word at a place of out, and the place behind them.
+// Only for proved callers in this module: out has the bytes for them from the place on.
 fn put_spaced(out: &mut [u8], at: usize, w: Word) -> usize
-    requires { ⌜ at + 4 ≤ length (now out) ⌝ }
-    ensures { λ r. ⌜ r ≡ at + length (32 ∷ spelled w) ⌝ }
-    ensures { λ r. ⌜ now (out .exit) ≡ laid (now (out .entry)) at (32 ∷ spelled w) ⌝ }
+    requires { ⌜ at + spacedLimit ≤ length (now out) ⌝ }
+    ensures { λ r. ⌜ r ≡ at + length (space ∷ spelled w) ⌝ }
+    ensures { λ r. ⌜ now (out .exit) ≡ laid (now (out .entry)) at (space ∷ spelled w) ⌝ }
 {
     out[at] = b' ';
     put(out, at + 1, w)
 }
 
 // The held modes.
+// Only for put_view, which is proved: out has the bytes for them, and n is no more than there are.
 fn put_modes(out: &mut [u8], from: usize, held: [u8; ROOMS], n: usize) -> usize
-    requires { ⌜ (from + 49 ≤ length (now out)) × (n ≤ 16) ⌝ }
+    requires { ⌜ (from + modesLimit ≤ length (now out)) × (n ≤ roomLimit) ⌝ }
     ensures { λ r. ⌜ r ≡ from + length (spaced (map modeText (take n held))) ⌝ }
     ensures { λ r. ⌜ now (out .exit) ≡ laid (now (out .entry)) from (spaced (map modeText (take n held))) ⌝ }
 {
@@ -94,8 +99,9 @@ fn put_modes(out: &mut [u8], from: usize, held: [u8; ROOMS], n: usize) -> usize
 }
 
 // What is shown of a table, each word after a space.
+// Only for write_line, which is proved: out has the bytes for it, and the view no more rooms than held modes.
 fn put_view(out: &mut [u8], from: usize, v: View) -> usize
-    requires { ⌜ (from + 57 ≤ length (now out)) × (v .rooms ≤ 16) ⌝ }
+    requires { ⌜ (from + viewLimit ≤ length (now out)) × (v .rooms ≤ roomLimit) ⌝ }
     ensures { λ r. ⌜ r ≡ from + length (spaced (texts v)) ⌝ }
     ensures { λ r. ⌜ now (out .exit) ≡ laid (now (out .entry)) from (spaced (texts v)) ⌝ }
 {

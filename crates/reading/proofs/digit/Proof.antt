@@ -4,10 +4,10 @@ use Rattle.reading.proofs.digit.Statement.{statement}
 use Rattle.reading.proofs.digit.Tie as tie
 
 returns : tie.Need-returns
-returns c = digit-low _ (omega arith)
+returns c = digit-is _ (omega arith) (omega arith)
 
 returns-2 : tie.Need-returns-2
-returns-2 c = digit-is _ (omega arith) (omega arith)
+returns-2 c = digit-low _ (omega arith)
 
 returns-3 : tie.Need-returns-3
 returns-3 c = digit-high _ (omega arith)

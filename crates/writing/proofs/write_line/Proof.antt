@@ -1,5 +1,6 @@
 use Prim.Native.Nat.{_<_}
 use native.Mathlib.Omega.{arith}
+use Rattle.writing.specs.Written.{lineLimit}
 use Rattle.writing.proofs.Whole.{short-length, short-text, view-fits, rooms-few, feed-fits, end-low, line-long, line-length, line-text}
 use borrow.Author.Needs.{needs}
 use Rattle.writing.proofs.write_line.Statement.{statement}
@@ -24,7 +25,7 @@ slice-write-out : tie.Need-slice-write-out
 slice-write-out c = search (needs, feed-fits)
 
 add-result : tie.Need-add-result
-add-result c = let low : c .before .before .put-view .result < 64 = search (needs, end-low) in omega arith
+add-result c = let low : c .before .before .put-view .result < lineLimit = search (needs, end-low) in omega arith
 
 same-length : tie.Need-same-length
 same-length c = search (needs, line-long)

@@ -3,13 +3,14 @@ use mathlib.Core.Path.{_≡_, refl}
 use Prim.Native.Nat.{_≤_, _+_, _-_}
 use lib.ListN.{length}
 use Rattle.session.specs.Known.{Known}
+use Rattle.writing.specs.Written.{lineLimit}
 use borrow.Author.Needs.{needs}
 use Rattle.punkurel.proofs.lines.take.Statement.{statement}
 use Rattle.punkurel.proofs.lines.take.Tie as tie
 
 abbrev Inv-loop : tie.InvT-loop
 Inv-loop talk chunk out₀ t₀ begun₀ pen₀ from₀ end₀ out t begun pen from end =
-    (from ≤ end) × (end ≤ length chunk) × (pen .at + 64 ≤ length out) × (length out ≡ length out₀) × Known t
+    (from ≤ end) × (end ≤ length chunk) × (pen .at + lineLimit ≤ length out) × (length out ≡ length out₀) × Known t
 
 abbrev μ-loop : tie.MeasureT-loop
 μ-loop talk chunk out₀ t₀ begun₀ pen₀ from₀ end₀ out t begun pen from end = length chunk - from

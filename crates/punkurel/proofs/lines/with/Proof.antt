@@ -1,12 +1,13 @@
 use mathlib.Core.Path.{_≡_}
 use Prim.Native.Nat.{_≤_, _-_}
 use lib.ListN.{length}
+use Rattle.punkurel.specs.Kept.{keptLimit}
 use borrow.Author.Needs.{needs}
 use Rattle.punkurel.proofs.lines.with.Statement.{statement}
 use Rattle.punkurel.proofs.lines.with.Tie as tie
 
 abbrev Inv-loop : tie.InvT-loop
-Inv-loop piece bytes₀ n₀ i₀ bytes n i = (i ≤ length piece) × (length bytes ≡ 65)
+Inv-loop piece bytes₀ n₀ i₀ bytes n i = (i ≤ length piece) × (length bytes ≡ keptLimit)
 
 abbrev μ-loop : tie.MeasureT-loop
 μ-loop piece bytes₀ n₀ i₀ bytes n i = length piece - i
