@@ -71,7 +71,7 @@ fn entry_of(mode: u8, link: u32) -> Entry
 {
     match mode {
         modes::NONE => NO_ENTRY,
-        1..=255 => Entry {
+        modes::IR..=255 => Entry {
             mode: mode,
             link: link,
         },

@@ -25,7 +25,7 @@ fn counted(number: u8) -> usize
 {
     match number {
         numbers::DONE => 1,
-        1..=255 => 0,
+        numbers::TABLE..=255 => 0,
     }
 }
 

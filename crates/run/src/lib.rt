@@ -36,7 +36,7 @@ pub fn run(n: u8, events: &[u8]) -> Answer
     let number = fresh.number;
     match number {
         numbers::DONE => {}
-        1..=255 => return fresh,
+        numbers::TABLE..=255 => return fresh,
     }
     let start = fresh.table;
     let last = made(start, events);

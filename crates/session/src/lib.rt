@@ -28,7 +28,7 @@ fn begin(t: Table, n: u8) -> Answer
     let number = fresh.number;
     match number {
         numbers::DONE => fresh,
-        1..=255 => Answer {
+        numbers::TABLE..=255 => Answer {
             number: number,
             table: t,
         },

@@ -24,7 +24,7 @@ fn ending(count: usize, p: Plan) -> u8
     let number = p.number;
     match number {
         numbers::DONE => {}
-        1..=255 => return number,
+        numbers::TABLE..=255 => return number,
     }
     let done = p.done;
     if done.worn {
@@ -53,7 +53,7 @@ pub fn step_untested(t: Table, e: Event, formed: bool) -> Answer
                 table: after,
             }
         }
-        1..=255 => Answer {
+        numbers::TABLE..=255 => Answer {
             number: number,
             table: t,
         },
