@@ -27,12 +27,15 @@ fn begin(t: Table, n: u8) -> Answer
     let fresh = table::fresh(n);
     let number = fresh.number;
     match number {
-        numbers::DONE => fresh,
-        numbers::TABLE..=255 => Answer {
-            number: number,
-            table: t,
-        },
+        numbers::DONE => {}
+        numbers::TABLE..=255 => {
+            return Answer {
+                number: number,
+                table: t,
+            };
+        }
     }
+    fresh
 }
 
 // A line of another form.

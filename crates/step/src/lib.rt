@@ -46,17 +46,18 @@ pub fn step_untested(t: Table, e: Event, formed: bool) -> Answer
     let count = t.count;
     let number = ending(count, p);
     match number {
-        numbers::DONE => {
-            let after = written(t, p);
-            Answer {
-                number: numbers::DONE,
-                table: after,
-            }
+        numbers::DONE => {}
+        numbers::TABLE..=255 => {
+            return Answer {
+                number: number,
+                table: t,
+            };
         }
-        numbers::TABLE..=255 => Answer {
-            number: number,
-            table: t,
-        },
+    }
+    let after = written(t, p);
+    Answer {
+        number: numbers::DONE,
+        table: after,
     }
 }
 

@@ -7,10 +7,10 @@ fresh-requires : tie.Need-fresh-requires
 fresh-requires c κs = search needs
 
 returns : tie.Need-returns
-returns c = search (needs, begun-new)
+returns c = search (needs, begun-not)
 
 returns-2 : tie.Need-returns-2
-returns-2 c = search (needs, begun-not)
+returns-2 c = search (needs, begun-new)
 
 pub begin-spec : {M : Type 1} → statement M
 begin-spec = tie.close (tie.spec fresh-requires returns returns-2)
