@@ -16,10 +16,9 @@ use Rattle.room.specs.declared.Room.{Room}
 use Rattle.room.specs.declared.Send.{Send}
 use Rattle.room.specs.declared.Send.the-variants as out
 use Rattle.room.specs.declared.Changed.{Changed}
-use Rattle.room.specs.Limits.{nobody}
 use Rattle.room.specs.Record.{withModes, withDebt}
 use Rattle.room.specs.Owned.{owned, hasNoEntries}
-use Rattle.room.specs.Rules.{nextLink, lent, lentTo, left, remaining, passed, passedTo, credited, settled, leaving, granted, tokened, tokenedBy, reduced}
+use Rattle.room.specs.Rules.{lent, lentTo, left, passed, passedTo, credited, settled, leaving, granted, tokened, tokenedBy, reduced}
 use Rattle.table.specs.declared.Wire.{Wire}
 use Rattle.table.specs.declared.Queued.{Queued}
 use Rattle.table.specs.declared.Message.{Message}
@@ -37,7 +36,7 @@ use Rattle.kept.specs.Asks.{hold-kept}
 use Rattle.kept.specs.Turns.{turn-self, turn-lend}
 use Rattle.kept.specs.Serve.{upgraded-kept, upgraded-token}
 use Rattle.kept.specs.Delivers.{arrived-kept, reduced-kept}
-use Rattle.facts.specs.Cases.{reduced-either}
+use Rattle.facts.specs.Cases.{passed-either, credited-either, reduced-either}
 use Rattle.safe.specs.Turning.{due-wants}
 
 -- of a record before and after: it wants what it wanted, or wants none and holds what it wanted
@@ -54,16 +53,12 @@ gains r s m some e g = record { gets = inr (refl, sym e ∙ ⊎-elim (λ k. k) (
 
 -- a pass leaves the modes
 passed-gets : (r s : Room) (y : ℕ) → Gets r s → Gets r (passedTo s y)
-unfolding passedTo left
-passed-gets r s y g =
-    by-test (Gets r) (eqb (remaining s y) 0) (left s y) (withDebt (left s y) y (remaining s y) (nextLink (s .counter)))
-    (λ e. alike r s _ refl refl g) (λ e. alike r s _ refl refl g)
+unfolding left
+passed-gets r s y g = passed-either s y (Gets r) (alike r s _ refl refl g) (alike r s _ refl refl g)
 
 -- and so does a debt that falls
 credited-gets : (r s : Room) (m : ℕ) → Gets r s → Gets r (credited s m)
-unfolding credited
-credited-gets r s m g =
-    by-test (Gets r) (eqb m 0) (withDebt s nobody m 0) (withDebt s (s .lender) m (s .link)) (λ e. alike r s _ refl refl g) (λ e. alike r s _ refl refl g)
+credited-gets r s m g = credited-either s m (Gets r) (alike r s _ refl refl g) (alike r s _ refl refl g)
 
 -- what is sent leaves the record as it is
 sent-same : (P : ℕ → Room → Type 0) (w : Work) (s : Send) → P (w .me) (w .room) → P (sendOut w s .me) (sendOut w s .room)

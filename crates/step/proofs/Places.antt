@@ -15,13 +15,12 @@ use Rattle.table.specs.declared.Found.the-variants as found
 use Rattle.table.specs.Limits.{queueLimit}
 use Rattle.table.specs.Tables.{noWire, roomAt, queueOf, messagesOf}
 use Rattle.table.specs.Oldest.{oldestOf}
-use Rattle.table.specs.Formed.{due, isNamedIn, names, messageFine, wellFormed}
+use Rattle.table.specs.Formed.{due, isNamedIn, names, wellFormed}
 use Rattle.facts.specs.Shapes.{Shaped}
 use Rattle.facts.specs.Whole.{WellFormed, facts-of}
+use Rattle.facts.specs.Messages.{proper}
 use Rattle.facts.specs.Names.{queue-bound, queue-room, named-once}
 use Rattle.facts.specs.Search.{oldest-low, oldest-there}
-use Rattle.base.specs.Tests.{and-left}
-use borrow.Author.Tests.{ltb-true}
 use Rattle.step.proofs.Queues.{isRequest}
 
 module _ (t : Table) (s : Shaped t) (h : wellFormed t ≡ true) where
@@ -55,12 +54,12 @@ module _ (t : Table) (s : Shaped t) (h : wellFormed t ≡ true) where
 
   -- the origin of a REQUEST is named by it, and by nothing else
   pub request-place : (a b k o m : ℕ) (idle : Bool) → oldestOf t a b ≡ found.At k (msg.Request o m idle) → length (queueOf t) < queueLimit
-  unfolding isNamedIn in-queue on-wires messageFine
+  unfolding isNamedIn in-queue on-wires
   request-place a b k o m idle e =
       let low = oldest-low t a b k (msg.Request o m idle) e in
       let there = oldest-there t a b k (msg.Request o m idle) e in
       let member : Mem (record { «from» = a; to = b; message = msg.Request o m idle }) (messagesOf t) = rw there at (mem-at (messagesOf t) k noWire low) in
-      let origin : o < t .n = ltb-true o (t .n) (and-left (ltb o (t .n)) _ (facts .formed .message _ member .fine)) in
+      let origin : o < t .n = proper (facts .formed .message _ member) .low in
       let named : 1 ≤ on-wires o = rw (eq-eqb o o refl) at (mem-total (λ w. one (isNamedIn o (w .to) (w .message))) member) in
       omega (
         arith,
