@@ -11,14 +11,14 @@ use Rattle.base.specs.Choice.{by-test}
 use Rattle.base.specs.Tests.{and-left, and-right}
 use Rattle.base.specs.Sums.{one}
 use Rattle.modes.specs.Codes.{U, W}
-use Rattle.modes.specs.Modes.{isStronger, agrees, canLend}
+use Rattle.modes.specs.Modes.{agrees, canLend}
 use Rattle.room.specs.declared.Room.{Room}
 use Rattle.room.specs.declared.Send.{Send}
 use Rattle.room.specs.declared.Send.the-variants as out
 use Rattle.room.specs.declared.Changed.{Changed}
 use Rattle.room.specs.Record.{withModes, withDebt}
 use Rattle.room.specs.Owned.{owned, hasNoEntries}
-use Rattle.room.specs.Rules.{lent, lentTo, left, passed, passedTo, credited, settled, leaving, granted, tokened, tokenedBy, reduced}
+use Rattle.room.specs.Rules.{lent, lentTo, left, passed, passedTo, credited, leaving, granted, tokened, tokenedBy, reduced}
 use Rattle.table.specs.declared.Wire.{Wire}
 use Rattle.table.specs.declared.Queued.{Queued}
 use Rattle.table.specs.declared.Message.{Message}
@@ -36,7 +36,7 @@ use Rattle.kept.specs.Asks.{hold-kept}
 use Rattle.kept.specs.Turns.{turn-self, turn-lend}
 use Rattle.kept.specs.Serve.{upgraded-kept, upgraded-token}
 use Rattle.kept.specs.Delivers.{arrived-kept, reduced-kept}
-use Rattle.facts.specs.Cases.{passed-either, credited-either, reduced-either}
+use Rattle.facts.specs.Cases.{passed-either, credited-either, settled-either, reduced-either}
 use Rattle.safe.specs.Turning.{due-wants}
 
 -- of a record before and after: it wants what it wanted, or wants none and holds what it wanted
@@ -54,11 +54,11 @@ gains r s m some e g = record { gets = inr (refl, sym e ∙ ⊎-elim (λ k. k) (
 -- a pass leaves the modes
 passed-gets : (r s : Room) (y : ℕ) → Gets r s → Gets r (passedTo s y)
 unfolding left
-passed-gets r s y g = passed-either s y (Gets r) (alike r s _ refl refl g) (alike r s _ refl refl g)
+passed-gets r s y g = passed-either s y (Gets r) (λ e. alike r s _ refl refl g) (λ e. alike r s _ refl refl g)
 
 -- and so does a debt that falls
 credited-gets : (r s : Room) (m : ℕ) → Gets r s → Gets r (credited s m)
-credited-gets r s m g = credited-either s m (Gets r) (alike r s _ refl refl g) (alike r s _ refl refl g)
+credited-gets r s m g = credited-either s m (Gets r) (λ e. alike r s _ refl refl g) (λ e. alike r s _ refl refl g)
 
 -- what is sent leaves the record as it is
 sent-same : (P : ℕ → Room → Type 0) (w : Work) (s : Send) → P (w .me) (w .room) → P (sendOut w s .me) (sendOut w s .room)
@@ -76,11 +76,9 @@ module _ (n : ℕ) (rooms : ℕ → Room) (kept : List Wire) where
 
   -- "Settle (without the token)"
   settle-got : (w : Work) → Got w → Got (settle w)
-  unfolding settle settled
+  unfolding settle
   settle-got w g =
-      by-test (λ (c : Changed). Got (change w c)) (isStronger (w .room .credit) (owned (w .room)))
-      (record { room = credited (w .room) (owned (w .room)); send = out.Reduce (w .room .lender) (w .room .link) (owned (w .room)) })
-      (record { room = w .room; send = out.Nothing })
+      settled-either (w .room) (λ (c : Changed). Got (change w c))
       (λ e. sent-got (withRoom w (credited (w .room) (owned (w .room)))) _ (credited-gets (rooms (w .me)) (w .room) (owned (w .room)) g))
       (λ e. sent-got w _ g)
 
@@ -184,4 +182,4 @@ module _ (n : ℕ) (rooms : ℕ → Room) (kept : List Wire) where
     receive-got a (msg.Reduce l m) r t =
         settle-or-serve-got (withRoom w (reduced (w .room) a l m))
         (reduced-kept n rooms kept w a (r .facts .from-low) (r .facts .apart) l m (proper (r .facts)) t)
-        (reduced-either (w .room) a l m (Gets (rooms (w .me))) (alike (rooms (w .me)) (w .room) _ refl refl got) got)
+        (reduced-either (w .room) a l m (Gets (rooms (w .me))) (λ e. alike (rooms (w .me)) (w .room) _ refl refl got) (λ e. got))

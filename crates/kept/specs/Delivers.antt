@@ -174,10 +174,10 @@ module _ (n : ℕ) (rooms : ℕ → Room) (kept : List Wire) (w : Work) (from : 
     unfolding due
     reduced-kept l m code a =
         reduced-either (w .room) from l m (λ (r : Room). Whole n rooms kept (withRoom w r))
-        (set-alike n rooms kept w empty 0 a (setEntry (w .room) from (entryOf m l))
+        (λ e. set-alike n rooms kept w empty 0 a (setEntry (w .room) from (entryOf m l))
         (entry-set-facts n (w .me) (w .room) (own-room n rooms kept w empty 0 a) from m l (a .small) (a .long) from-low apart code)
         (length-set (w .room .entries) from (entryOf m l) ∙ a .long) refl refl)
-        a
+        (λ e. a)
 
     reduce-kept : (l m : ℕ) → m ≤ W → Whole n rooms kept w → Whole n rooms kept (receive w from (msg.Reduce l m))
     unfolding receive

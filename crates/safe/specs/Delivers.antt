@@ -176,7 +176,7 @@ module _ (n : ℕ) (rooms : ℕ → Room) (messages : List Wire) (me : ℕ) (roo
 
     -- what a REDUCE leaves alone
     same : {A : Type 0} (f : Room → A) → f (setEntry room a (entryOf m l)) ≡ f room → f room ≡ f room → f (new lowered me) ≡ f (old me)
-    same f p q = ap f (here lowered) ∙ reduced-either room a l m (λ (r : Room). f r ≡ f room) p q ∙ sym (ap f at-me)
+    same f p q = ap f (here lowered) ∙ reduced-either room a l m (λ (r : Room). f r ≡ f room) (λ e. p) (λ e. q) ∙ sym (ap f at-me)
 
     before : lowered .token ≡ false → old me .token ≡ false
     before without = sym (same (λ r. r .token) refl refl) ∙ ap (λ (r : Room). r .token) (here lowered) ∙ without

@@ -64,7 +64,7 @@ due-wants r m e h = split (eqb (r .held) 0) (λ b. (rw b at e, eqb-true _ _ b)) 
 -- a pass leaves what is wanted
 passed-wants : (r : Room) (y : ℕ) → passedTo r y .wanted ≡ r .wanted
 unfolding left
-passed-wants r y = passed-either r y (λ (s : Room). s .wanted ≡ r .wanted) refl refl
+passed-wants r y = passed-either r y (λ (s : Room). s .wanted ≡ r .wanted) (λ e. refl) (λ e. refl)
 
 -- Inside serve: the room that acts has the token, and no clause but SERVED is open. The queue is what is still to be served.
 pub record Serving (n : ℕ) (rooms : ℕ → Room) (kept : List Wire) (w : Work) (queue : List Queued) : Type 0 where
