@@ -22,8 +22,9 @@ use Rattle.table.specs.declared.Message.the-variants as msg
 use Rattle.table.specs.Tables.{noWire}
 use Rattle.rules.specs.Limits.{wornLimit}
 use Rattle.facts.specs.Wires.{wire, leavingSent}
+use Rattle.facts.specs.Names.{isRequest}
 use Rattle.facts.specs.Cases.{passed-either, credited-either, reduced-either, lifted-either}
-use Rattle.bounds.specs.Bounds.{isRequest, Counters}
+use Rattle.bounds.specs.Bounds.{Counters}
 use Rattle.bounds.specs.Weights.{requests, requests-sent, requests-taken, requests-leaving}
 
 -- Changes of the queue and of the messages: the rooms are as they were.

@@ -3,14 +3,13 @@ use mathlib.Core.Path.{_≡_, refl, sym, _∙_, ap, subst}
 use mathlib.Core.Logic.{_≢_, ⊎-elim}
 use mathlib.Core.Bool.{true, false, _&&_}
 use mathlib.Core.List.{List, [], _∷_, List·Memᴰ·head, List·Memᴰ·not-nil}
-use Prim.Native.Nat.{ℕ, zero, suc, _+_, _*_, _≤_, _<_}
+use Prim.Native.Nat.{ℕ, zero, suc, _+_, _≤_, _<_}
 use native.Mathlib.Omega.{arith}
 use lib.Dec.{ltb, eqb}
 use borrow.Author.Tests.{ltb-false}
 use Rattle.base.specs.Choice.{split}
 use Rattle.base.specs.Tests.{clash}
-use Rattle.base.specs.Below.{some-or-none}
-use Rattle.base.specs.Sums.{one, sum, sum-at, sum-bound, same?, below?}
+use Rattle.base.specs.Sums.{one, sum, sum-at, same?, below?}
 use Rattle.base.specs.Lists.{Mem, total}
 use Rattle.base.specs.Folds.{folds}
 use Rattle.modes.specs.Codes.{U, W}
@@ -24,10 +23,12 @@ use Rattle.room.proofs.Owning.{no-entries-of, owned-none}
 use Rattle.table.specs.declared.Table.{Table}
 use Rattle.table.specs.declared.Queued.{Queued}
 use Rattle.table.specs.Tables.{roomAt, queueOf}
-use Rattle.table.specs.Formed.{due, tokens, names}
+use Rattle.table.specs.Formed.{due, names}
 use Rattle.rules.specs.Rules.{upgradeWaits}
 use Rattle.facts.specs.Rooms.{RoomFacts}
+use Rattle.facts.specs.Due.{due-wanted}
 use Rattle.facts.specs.Moments.{QueuedFacts}
+use Rattle.facts.specs.Tokens.{token-somewhere}
 use Rattle.ledger.specs.Loans.{debt}
 use Rattle.ledger.specs.Debts.{debt-here, debt-none}
 use Rattle.owning.specs.Clauses.{Blocked}
@@ -133,11 +134,8 @@ module _ (n : ℕ) (rooms : ℕ → Room) (queue : List Queued) (i : Invariant n
 
   -- some room has the token
   holder : (r : ℕ) × (r < n) × (rooms r .token ≡ true)
-  unfolding tokens total
-  holder = ⊎-elim (λ f. f) (λ f. absurd (omega (arith, i .sound .token, nobody-has f))) (some-or-none n (λ c. rooms c .token))
-    where
-      nobody-has : ((c : ℕ) → c < n → rooms c .token ≡ false) → sum n (λ c. one (rooms c .token)) ≤ n * 0
-      nobody-has f = sum-bound n 0 (λ c. one (rooms c .token)) (λ c h. omega (arith, ap one (f c h)))
+  holder =
+      ⊎-elim (λ f. f) (λ f. absurd (List·Memᴰ·not-nil (f .1))) (token-somewhere n rooms [] (omega (arith, i .sound .token)))
 
   nobody-holds : (c : ℕ) → c < n → rooms c .held ≡ 0
   nobody-holds c low = split (rooms c .token) (root-free c low) (free c low)
@@ -154,8 +152,7 @@ module _ (n : ℕ) (rooms : ℕ → Room) (queue : List Queued) (i : Invariant n
       (λ e. omega (arith, ltb-false 0 (due (rooms c)) e))
 
   nobody-waits : (c : ℕ) → c < n → rooms c .wanted ≡ 0
-  unfolding due
-  nobody-waits c low = rw (nobody-holds c low) at (not-due c low)
+  nobody-waits c low = sym (due-wanted (rooms c) (nobody-holds c low)) ∙ not-due c low
 
 -- "When no more can be accepted" nobody waits.
 pub resting : (n : ℕ) (t : Table) → Reached n t → Resting t → (c : ℕ) → c < n → roomAt t c .wanted ≡ 0

@@ -26,7 +26,8 @@ use Rattle.table.specs.declared.Message.the-variants as msg
 use Rattle.table.specs.Formed.{isToken, tokens}
 use Rattle.facts.specs.Wires.{wire, leavingSent}
 use Rattle.ledger.specs.Takes.{Oldest}
-use Rattle.bounds.specs.Bounds.{level, isRequest}
+use Rattle.facts.specs.Names.{isRequest}
+use Rattle.bounds.specs.Bounds.{level}
 use Rattle.bounds.specs.Weights.{level-le, level-none, level-falls, requests-sent, requests-taken, requests-leaving}
 use Rattle.facts.specs.Cases.{passed-either, credited-either, reduced-either}
 use Rattle.measure.specs.Measure.{pending, tokensIn, charge, follow, holdWeight, nothing, own, load, potential}
