@@ -34,7 +34,7 @@ Moves t = (e : Event) × (isDraining e ≡ true) × (stepOf t e .«number» ≡ 
 abbrev delivery : ℕ → ℕ → Event
 delivery a b = record { kind = DELIVER; room = a; other = b; mode = 0 }
 
-abbrev handing : ℕ → Event
+abbrev pub handing : ℕ → Event
 handing c = record { kind = HANDBACK; room = c; other = 0; mode = 0 }
 
 -- the first message of all is the oldest on its wire
