@@ -14,6 +14,11 @@ use Rattle.table.specs.Formed.{due}
 use Rattle.rules.specs.Rules.{upgradeWaits}
 
 module _ (r : Room) where
+  -- only these two modes count
+  pub due-same : (s : Room) → s .held ≡ r .held → s .wanted ≡ r .wanted → due s ≡ due r
+  unfolding due
+  due-same s h w = rw (h, w) refl
+
   -- one that wants nothing waits for nothing,
   pub due-none : r .wanted ≡ 0 → due r ≡ 0
   unfolding due

@@ -26,7 +26,7 @@ use Rattle.table.specs.Formed.{due, isToken, isNamedIn, names}
 use Rattle.rules.specs.Work.{Work, withRoom, send, join, change}
 use Rattle.rules.specs.Rules.{lend, settle, serve, takeRequest, receive}
 use Rattle.facts.specs.Rooms.{RoomFacts}
-use Rattle.facts.specs.Due.{due-none}
+use Rattle.facts.specs.Due.{due-none, due-same}
 use Rattle.facts.specs.Moments.{QueuedFacts}
 use Rattle.facts.specs.Messages.{GrantFacts, TokenFacts, proper}
 use Rattle.facts.specs.Tokens.{gone-tokenless}
@@ -164,12 +164,11 @@ module _ (n : ℕ) (rooms : ℕ → Room) (kept : List Wire) (w : Work) (from : 
 
     -- "REDUCE: if b's entry for a has this link number and a stronger mode than the new one, it takes the new mode; else the message is dropped."
     pub reduced-kept : (l m : ℕ) → m ≤ W → Whole n rooms kept w → Whole n rooms kept (withRoom w (reduced (w .room) from l m))
-    unfolding due
     reduced-kept l m code a =
         reduced-either (w .room) from l m (λ (r : Room). Whole n rooms kept (withRoom w r))
         (λ e. set-alike n rooms kept w empty 0 a (setEntry (w .room) from (entryOf m l))
         (entry-set-facts n (w .me) (w .room) (own-room n rooms kept w empty 0 a) from m l (a .small) (a .long) from-low apart code)
-        (length-set (w .room .entries) from (entryOf m l) ∙ a .long) refl refl)
+        (length-set (w .room .entries) from (entryOf m l) ∙ a .long) (due-same (w .room) _ refl refl) refl)
         (λ e. a)
 
     reduce-kept : (l m : ℕ) → m ≤ W → Whole n rooms kept w → Whole n rooms kept (receive w from (msg.Reduce l m))

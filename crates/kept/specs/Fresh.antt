@@ -17,6 +17,7 @@ use Rattle.table.specs.Tables.{roomAt, freshTable}
 use Rattle.table.specs.Formed.{due, tokens, names}
 use Rattle.facts.specs.Shapes.{Shaped}
 use Rattle.facts.specs.Rooms.{RoomFacts, EntryFacts}
+use Rattle.facts.specs.Due.{due-none}
 use Rattle.facts.specs.Whole.{WellFormed, test-of}
 use Rattle.kept.specs.After.{Lawful}
 
@@ -104,8 +105,7 @@ module _ (n : ℕ) (some : 1 ≤ n) (small : n ≤ roomLimit) where
   )
 
   no-due : (c : ℕ) → c < n → due (roomAt (freshTable n) c) ≡ 0
-  unfolding due
-  no-due c l = room-each (λ c r. due r ≡ 0) refl (λ c b e. refl) c (omega arith)
+  no-due c l = room-each (λ c r. due r ≡ 0) (due-none first refl) (λ c b e. due-none blankRoom refl) c (omega arith)
 
   shaped : Shaped (freshTable n)
   unfolding freshTable

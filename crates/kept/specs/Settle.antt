@@ -13,10 +13,10 @@ use Rattle.room.specs.Record.{withDebt}
 use Rattle.room.specs.Owned.{owned}
 use Rattle.room.specs.Rules.{credited}
 use Rattle.table.specs.declared.Wire.{Wire}
-use Rattle.table.specs.Formed.{due}
 use Rattle.rules.specs.Work.{Work, withRoom, change, sendOut}
 use Rattle.rules.specs.Rules.{settle}
 use Rattle.facts.specs.Rooms.{RoomFacts, owned-code}
+use Rattle.facts.specs.Due.{due-same}
 use Rattle.facts.specs.Cases.{credited-either, settled-either}
 use Rattle.kept.specs.Moment.{empty}
 use Rattle.kept.specs.Records.{free-facts, owing-facts}
@@ -33,11 +33,10 @@ module _ (n : ℕ) (rooms : ℕ → Room) (kept : List Wire) (w : Work) (a : Who
 
   -- "credit becomes owned, and at none the lender is nobody"
   owing-less : owned (w .room) < w .room .credit → Whole n rooms kept (withRoom w (credited (w .room) (owned (w .room))))
-  unfolding due
   owing-less h =
       credited-either (w .room) (owned (w .room)) (λ (r : Room). Whole n rooms kept (withRoom w r))
-      (λ e. rw e (set-alike n rooms kept w empty 0 a _ (free-facts n (w .me) (w .room) facts (a .low) (a .small)) (a .long) refl refl))
-      (λ e. set-alike n rooms kept w empty 0 a _ (owing e) (a .long) refl refl)
+      (λ e. rw e (set-alike n rooms kept w empty 0 a _ (free-facts n (w .me) (w .room) facts (a .low) (a .small)) (a .long) (due-same (w .room) _ refl refl) refl))
+      (λ e. set-alike n rooms kept w empty 0 a _ (owing e) (a .long) (due-same (w .room) _ refl refl) refl)
     where
       owing : owned (w .room) ≢ 0 → RoomFacts n (w .me) (withDebt (w .room) (w .room .lender) (owned (w .room)) (w .room .link))
       owing e =
