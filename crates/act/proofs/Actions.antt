@@ -177,7 +177,3 @@ module _ (d : Desk) (s : Starts d) (e : Desk) (w : Work) where
 
   pub sends-ready : Sends d e w → Ready e
   sends-ready t = record { order = omega arith; places = omega arith; «room» = omega arith; clean = t .clean (s .clean) }
-
--- a record changed on a desk that starts
-pub starts-ready : (d : Desk) (y : Room) → Starts d → Ready (atRoom d y)
-starts-ready d y s = record { order = omega arith; places = omega arith; «room» = omega arith; clean = record { blank = s .clean .blank } }

@@ -1,7 +1,7 @@
 -- Lists of messages and of places in a queue: weights, counts, membership, and a list without one element.
 use mathlib.Core.Path.{_≡_, refl, ap}
 use mathlib.Core.Logic.{_⊎_, inl, inr}
-use mathlib.Core.Bool.{Bool}
+use mathlib.Core.Bool.{Bool, true}
 use mathlib.Core.List.{List, [], _∷_, _++_, List·Memᴰ, List·Memᴰ·head, List·Memᴰ·tail, List·Memᴰ·cases-cons, List·Memᴰ·append-cases, List·Memᴰ·eq-of-singleton, List·Memᴰ·not-nil}
 use Prim.Native.Nat.{ℕ, zero, suc, _+_, _≤_, _<_}
 use native.Mathlib.Nat.{not-suc-le-zero, le-of-suc-le-suc}
@@ -9,6 +9,7 @@ use native.Mathlib.Numerals.{add-one}
 use native.Mathlib.Omega.{arith}
 use lib.ListN.{length, getD, take, drop}
 use lib.Seq.{take-suc}
+use Rattle.base.specs.Choice.{split}
 use Rattle.base.specs.Sums.{one, one-le, sum, sum-add, sum-bound}
 
 module _ {A : Type 0} where
@@ -91,6 +92,15 @@ module _ {A : Type 0} where
   unfolding total
   mem-total f (List·Memᴰ·head {x = x} e) = omega (arith, ap f e)
   mem-total f (List·Memᴰ·tail m) = omega (arith, mem-total f m)
+
+  -- where the count is not zero some element passes the test
+  pub count-found : (p : A → Bool) (l : List A) → 1 ≤ count p l → (a : A) × Mem a l × (p a ≡ true)
+  unfolding total
+  count-found p [] h = absurd (omega arith)
+  count-found p (x ∷ l) h =
+      split (p x)
+      (λ q. (x, List·Memᴰ·head refl, q))
+      (λ q. let f = count-found p l (omega (arith, ap one q)) in (f .0, List·Memᴰ·tail (f .1), f .2))
 
   -- what stands before place i, and what stands behind it
   pub remove-split : (i : ℕ) (l : List A) → remove i l ≡ take i l ++ drop (suc i) l

@@ -1,6 +1,5 @@
 -- MESSAGES and COUNTERS: what a table can still send, and how far its counters can still go.
 use Prim.Native.Nat.{ℕ, _+_, _*_, _≤_, _<_}
-use mathlib.Core.Bool.{Bool, true, false}
 use mathlib.Core.List.{List}
 use lib.Dec.{eqb}
 use lib.ListN.{length}
@@ -15,6 +14,7 @@ use Rattle.table.specs.declared.Queued.{Queued}
 use Rattle.table.specs.declared.Message.{Message}
 use Rattle.table.specs.declared.Message.the-variants as msg
 use Rattle.rules.specs.Limits.{busyLimit, wornLimit}
+use Rattle.facts.specs.Names.{isRequest}
 
 -- the REDUCEs that a loan of this mode can still cost its borrower: none 0, IR 1, others 2
 unfoldable pub level : ℕ → ℕ
@@ -27,13 +27,6 @@ weight (msg.Request o m idle) = 3
 weight (msg.Grant m l) = 3
 weight (msg.Token m rest l) = 1
 weight (msg.Reduce l m) = 1
-
-unfoldable pub isRequest : Message → Bool
-isRequest msg.Nothing = false
-isRequest (msg.Request o m idle) = true
-isRequest (msg.Grant m l) = false
-isRequest (msg.Token m rest l) = false
-isRequest (msg.Reduce l m) = false
 
 -- MESSAGES, with so many names in hand, taken off the queue or off a wire and not yet put down
 abbrev pub Messages : ℕ → (ℕ → Room) → List Queued → List Wire → ℕ → Type 0

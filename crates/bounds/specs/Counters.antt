@@ -22,8 +22,9 @@ use Rattle.table.specs.declared.Message.the-variants as msg
 use Rattle.table.specs.Tables.{noWire}
 use Rattle.rules.specs.Limits.{wornLimit}
 use Rattle.facts.specs.Wires.{wire, leavingSent}
+use Rattle.facts.specs.Names.{isRequest}
 use Rattle.facts.specs.Cases.{passed-either, credited-either, reduced-either, lifted-either}
-use Rattle.bounds.specs.Bounds.{isRequest, Counters}
+use Rattle.bounds.specs.Bounds.{Counters}
 use Rattle.bounds.specs.Weights.{requests, requests-sent, requests-taken, requests-leaving}
 
 -- Changes of the queue and of the messages: the rooms are as they were.
@@ -62,14 +63,14 @@ next-le k =
 
 passed-counter : (r : Room) (y : ℕ) → passedTo r y .counter ≡ nextLink (r .counter)
 unfolding left
-passed-counter r y = passed-either r y (λ (s : Room). s .counter ≡ nextLink (r .counter)) refl refl
+passed-counter r y = passed-either r y (λ (s : Room). s .counter ≡ nextLink (r .counter)) (λ e. refl) (λ e. refl)
 
 -- the counter after a settling, and after a REDUCE
 credited-counter : (r : Room) (m : ℕ) → credited r m .counter ≡ r .counter
-credited-counter r m = credited-either r m (λ (s : Room). s .counter ≡ r .counter) refl refl
+credited-counter r m = credited-either r m (λ (s : Room). s .counter ≡ r .counter) (λ e. refl) (λ e. refl)
 
 reduced-counter : (r : Room) (a l m : ℕ) → reduced r a l m .counter ≡ r .counter
-reduced-counter r a l m = reduced-either r a l m (λ (s : Room). s .counter ≡ r .counter) refl refl
+reduced-counter r a l m = reduced-either r a l m (λ (s : Room). s .counter ≡ r .counter) (λ e. refl) (λ e. refl)
 
 -- Changes of one room's record.
 module _ (n : ℕ) (old new : ℕ → Room) (messages : List Wire) (me : ℕ) (low : me < n) (others : (c : ℕ) → c ≢ me → new c ≡ old c)

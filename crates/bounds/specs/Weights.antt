@@ -15,10 +15,10 @@ use Rattle.table.specs.declared.Wire.{Wire}
 use Rattle.table.specs.declared.Message.{Message}
 use Rattle.table.specs.declared.Message.the-variants as msg
 use Rattle.table.specs.Tables.{noWire}
-use Rattle.facts.specs.Names.{isNaming}
+use Rattle.facts.specs.Names.{isNaming, isRequest}
 use Rattle.facts.specs.Wires.{wire, leavingSent}
 use Rattle.facts.specs.Cases.{leaving-either}
-use Rattle.bounds.specs.Bounds.{level, weight, isRequest}
+use Rattle.bounds.specs.Bounds.{level, weight}
 
 -- no mode has a level above 2
 pub level-le : (m : ℕ) → level m ≤ 2

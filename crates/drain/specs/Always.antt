@@ -6,7 +6,7 @@ use Rattle.table.specs.declared.Table.{Table}
 use Rattle.rules.specs.declared.Event.{Event}
 use Rattle.safe.specs.Reached.{Reached}
 use Rattle.safe.specs.Always.{reached-safe}
-use Rattle.drain.specs.Drains.{steps, bound, firsts, Drains}
+use Rattle.drain.specs.Drains.{steps, bound, Drains}
 use Rattle.drain.specs.Pots.{Pot, pot-falls, pot-start}
 use Rattle.drain.specs.Further.{drained-rests}
 use Rattle.drain.specs.Ends.{few, comes}
@@ -28,7 +28,6 @@ module _ (n : ℕ) (t : Table) (r : Reached n t) where
         few = few-steps;
         rests = λ es h. drained-rests n t r es h;
         given = λ es h c l w. given-way n es t (reached-safe n t r) c l w (drained-rests n t r es h c l);
-        ends = let end = comes (bound t) t few-steps (choices n t r) (choices-go-on n t r) in (firsts (end .0) (choices n t r), end .2);
         comes = comes (bound t) t few-steps;
         goes = (choices n t r, choices-go-on n t r);
       }

@@ -63,9 +63,7 @@ pub record Drains (n : ℕ) (t : Table) : Type 0 where
   pub rests : (es : List Event) → Resting (drained t es) → (c : ℕ) → c < n → roomAt (drained t es) c .wanted ≡ 0
   pub given : (es : List Event) → Resting (drained t es) → (c : ℕ) → c < n → roomAt t c .wanted ≢ 0
       → HeldOnTheWay c (roomAt t c .wanted) t es
-  -- such an end is reached: by some deliveries and hand-backs
-  pub ends : (es : List Event) × Resting (drained t es)
-  -- within the bound by whoever goes on, whatever each next event is
+  -- such an end is reached within the bound by whoever goes on, whatever each next event is
   pub comes : (next : ℕ → Event) → GoesOn t next → (k : ℕ) × (k ≤ bound t) × Resting (drained t (firsts k next))
   -- and one can go on
   pub goes : (next : ℕ → Event) × GoesOn t next

@@ -29,7 +29,7 @@ unfolding isMade
 made-accepted t e h = split (isDraining e) (λ d. (d, eqb-true _ _ (rw d at h))) (λ d. clash (rw d at h) refl)
 
 -- what was not made leaves the table
-unmade-stays : (t : Table) (e : Event) → isMade t e ≡ false → drainedBy t e ≡ t
+pub unmade-stays : (t : Table) (e : Event) → isMade t e ≡ false → drainedBy t e ≡ t
 unfolding isMade drainedBy
 unmade-stays t e h = split (isDraining e) (λ d. rw d (refused-stays t e (eqb-false _ _ (rw d at h)))) (λ d. rw d refl)
 

@@ -1,5 +1,5 @@
 -- What a delivery or a hand-back does to the modes of the room that acts: it wants what it wanted, or has been given that mode.
-use mathlib.Core.Path.{_≡_, refl, sym, _∙_, ap}
+use mathlib.Core.Path.{_≡_, refl, sym, _∙_, ap, subst⁻¹}
 use mathlib.Core.Logic.{_⊎_, inl, inr, ⊎-elim}
 use mathlib.Core.Bool.{Bool, true, not, _&&_}
 use mathlib.Core.List.{List, [], _∷_, List·Memᴰ·head}
@@ -11,15 +11,13 @@ use Rattle.base.specs.Choice.{by-test}
 use Rattle.base.specs.Tests.{and-left, and-right}
 use Rattle.base.specs.Sums.{one}
 use Rattle.modes.specs.Codes.{U, W}
-use Rattle.modes.specs.Modes.{isStronger, agrees, canLend}
+use Rattle.modes.specs.Modes.{agrees, canLend}
 use Rattle.room.specs.declared.Room.{Room}
 use Rattle.room.specs.declared.Send.{Send}
-use Rattle.room.specs.declared.Send.the-variants as out
 use Rattle.room.specs.declared.Changed.{Changed}
-use Rattle.room.specs.Limits.{nobody}
 use Rattle.room.specs.Record.{withModes, withDebt}
 use Rattle.room.specs.Owned.{owned, hasNoEntries}
-use Rattle.room.specs.Rules.{nextLink, lent, lentTo, left, remaining, passed, passedTo, credited, settled, leaving, granted, tokened, tokenedBy, reduced}
+use Rattle.room.specs.Rules.{lent, lentTo, left, passed, passedTo, credited, leaving, granted, tokened, tokenedBy, reduced}
 use Rattle.table.specs.declared.Wire.{Wire}
 use Rattle.table.specs.declared.Queued.{Queued}
 use Rattle.table.specs.declared.Message.{Message}
@@ -29,16 +27,16 @@ use Rattle.rules.specs.Work.{Work, withRoom, withQueue, send, join, sendOut, ch
 use Rattle.rules.specs.Rules.{hold, lend, pass, settle, upgradeWaits, upgraded, serveQueue, serve, settleOrServe, handBack, takeRequest, receive}
 use Rattle.facts.specs.Moments.{QueuedFacts}
 use Rattle.facts.specs.Messages.{proper}
-use Rattle.facts.specs.Wires.{wire}
+use Rattle.facts.specs.Due.{due-wants}
+use Rattle.facts.specs.Wires.{wire, sent-out}
 use Rattle.kept.specs.Changed.{changed-same}
 use Rattle.kept.specs.Moment.{Right, empty}
 use Rattle.kept.specs.Acts.{At, Whole, now, only, put-joined}
-use Rattle.kept.specs.Asks.{hold-kept}
+use Rattle.kept.specs.Asks.{handed-kept}
 use Rattle.kept.specs.Turns.{turn-self, turn-lend}
 use Rattle.kept.specs.Serve.{upgraded-kept, upgraded-token}
 use Rattle.kept.specs.Delivers.{arrived-kept, reduced-kept}
-use Rattle.facts.specs.Cases.{reduced-either}
-use Rattle.safe.specs.Turning.{due-wants}
+use Rattle.facts.specs.Cases.{passed-either, credited-either, settled-either, reduced-either}
 
 -- of a record before and after: it wants what it wanted, or wants none and holds what it wanted
 pub record Gets (r s : Room) : Type 0 where
@@ -54,22 +52,12 @@ gains r s m some e g = record { gets = inr (refl, sym e ∙ ⊎-elim (λ k. k) (
 
 -- a pass leaves the modes
 passed-gets : (r s : Room) (y : ℕ) → Gets r s → Gets r (passedTo s y)
-unfolding passedTo left
-passed-gets r s y g =
-    by-test (Gets r) (eqb (remaining s y) 0) (left s y) (withDebt (left s y) y (remaining s y) (nextLink (s .counter)))
-    (λ e. alike r s _ refl refl g) (λ e. alike r s _ refl refl g)
+unfolding left
+passed-gets r s y g = passed-either s y (Gets r) (λ e. alike r s _ refl refl g) (λ e. alike r s _ refl refl g)
 
 -- and so does a debt that falls
 credited-gets : (r s : Room) (m : ℕ) → Gets r s → Gets r (credited s m)
-unfolding credited
-credited-gets r s m g =
-    by-test (Gets r) (eqb m 0) (withDebt s nobody m 0) (withDebt s (s .lender) m (s .link)) (λ e. alike r s _ refl refl g) (λ e. alike r s _ refl refl g)
-
--- what is sent leaves the record as it is
-sent-same : (P : ℕ → Room → Type 0) (w : Work) (s : Send) → P (w .me) (w .room) → P (sendOut w s .me) (sendOut w s .room)
-unfolding sendOut send
-sent-same P w out.Nothing p = p
-sent-same P w (out.Reduce y l m) p = p
+credited-gets r s m g = credited-either s m (Gets r) (λ e. alike r s _ refl refl g) (λ e. alike r s _ refl refl g)
 
 module _ (n : ℕ) (rooms : ℕ → Room) (kept : List Wire) where
   -- the room that acts, against its record before the step
@@ -77,15 +65,13 @@ module _ (n : ℕ) (rooms : ℕ → Room) (kept : List Wire) where
   Got w = Gets (rooms (w .me)) (w .room)
 
   sent-got : (w : Work) (s : Send) → Got w → Got (sendOut w s)
-  sent-got = sent-same (λ x r. Gets (rooms x) r)
+  sent-got w s g = subst⁻¹ Got (sent-out w s) g
 
   -- "Settle (without the token)"
   settle-got : (w : Work) → Got w → Got (settle w)
-  unfolding settle settled
+  unfolding settle
   settle-got w g =
-      by-test (λ (c : Changed). Got (change w c)) (isStronger (w .room .credit) (owned (w .room)))
-      (record { room = credited (w .room) (owned (w .room)); send = out.Reduce (w .room .lender) (w .room .link) (owned (w .room)) })
-      (record { room = w .room; send = out.Nothing })
+      settled-either (w .room) (λ (c : Changed). Got (change w c))
       (λ e. sent-got (withRoom w (credited (w .room) (owned (w .room)))) _ (credited-gets (rooms (w .me)) (w .room) (owned (w .room)) g))
       (λ e. sent-got w _ g)
 
@@ -141,9 +127,9 @@ module _ (n : ℕ) (rooms : ℕ → Room) (kept : List Wire) where
 
     -- "HANDBACK(x). Held becomes none. Then settle or serve."
     pub hand-back-got : Whole n rooms kept w → w .room .wanted ≡ 0 → Got (handBack w)
-    unfolding handBack hold due
+    unfolding handBack hold
     hand-back-got a idle =
-        settle-or-serve-got (hold w 0) (hold-kept n rooms kept w a idle 0 (omega arith) refl (λ u. absurd (omega arith)) (λ u. absurd (omega arith)))
+        settle-or-serve-got (hold w 0) (handed-kept n rooms kept w a idle)
         (record { gets = inl (sym idle ∙ ap (λ (r : Room). r .wanted) begun) })
 
     -- "REQUEST": it joins the queue, then serve; or is lent to, then settle; or is sent on
@@ -170,7 +156,7 @@ module _ (n : ℕ) (rooms : ℕ → Room) (kept : List Wire) where
           → Got (serve (change w (tokened (w .room) (w .me) a m rest l)))
       unfolding tokened tokenedBy
       token-got rest l whole =
-          serve-got (change w (tokened (w .room) (w .me) a m rest l)) (sent-same (λ x r. r .token ≡ true) (withRoom w rooted) (leaving (w .room) a) refl) whole
+          serve-got (change w (tokened (w .room) (w .me) a m rest l)) (ap (λ (v : Work). v .room .token) (sent-out (withRoom w rooted) (leaving (w .room) a))) whole
           (sent-got (withRoom w rooted) (leaving (w .room) a) (alike (rooms (w .me)) (withModes (w .room) m 0) rooted refl refl given))
         where
           rooted : Room
@@ -189,4 +175,4 @@ module _ (n : ℕ) (rooms : ℕ → Room) (kept : List Wire) where
     receive-got a (msg.Reduce l m) r t =
         settle-or-serve-got (withRoom w (reduced (w .room) a l m))
         (reduced-kept n rooms kept w a (r .facts .from-low) (r .facts .apart) l m (proper (r .facts)) t)
-        (reduced-either (w .room) a l m (Gets (rooms (w .me))) (alike (rooms (w .me)) (w .room) _ refl refl got) got)
+        (reduced-either (w .room) a l m (Gets (rooms (w .me))) (λ e. alike (rooms (w .me)) (w .room) _ refl refl got) (λ e. got))

@@ -6,7 +6,7 @@ use Prim.Native.Nat.{ℕ, zero, suc}
 use Rattle.table.specs.declared.Table.{Table}
 use Rattle.table.specs.Numbers.{DONE}
 use Rattle.rules.specs.declared.Event.{Event}
-use Rattle.rules.specs.Events.{HANDBACK}
+use Rattle.rules.specs.Events.{handsBack}
 use Rattle.rules.specs.Step.{stepOf}
 use Rattle.safe.specs.Reached.{Reached}
 use Rattle.drain.specs.Drains.{isDraining, drainedBy, isMade, drained, Resting, firsts, GoesOn}
@@ -17,7 +17,7 @@ use Rattle.drain.specs.Further.{drained-by-reached}
 module _ (t : Table) where
   -- an event that is accepted; where none can be, any
   chosen : Resting t ⊎ Moves t → Event
-  chosen (inl q) = record { kind = HANDBACK; room = 0; other = 0; mode = 0 }
+  chosen (inl q) = handsBack 0
   chosen (inr (e, d, q)) = e
 
   accepted-made : (e : Event) → isDraining e ≡ true → stepOf t e .«number» ≡ DONE → isMade t e ≡ true

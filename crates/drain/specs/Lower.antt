@@ -5,18 +5,17 @@ use mathlib.Core.List.{List, [], _∷_, _++_, append-assoc}
 use Prim.Native.Nat.{ℕ, _≤_, _<_}
 use native.Mathlib.Omega.{arith}
 use Rattle.base.specs.Choice.{by-test}
-use Rattle.modes.specs.Modes.{isStronger}
 use Rattle.room.specs.declared.Room.{Room}
 use Rattle.room.specs.declared.Changed.{Changed}
-use Rattle.room.specs.declared.Send.the-variants as out
 use Rattle.room.specs.Record.{withModes}
 use Rattle.room.specs.Owned.{owned}
-use Rattle.room.specs.Rules.{credited, settled}
+use Rattle.room.specs.Rules.{credited}
 use Rattle.table.specs.declared.Wire.{Wire}
 use Rattle.table.specs.declared.Message.the-variants as msg
 use Rattle.rules.specs.Work.{Work, send, sendOut, change}
 use Rattle.rules.specs.Rules.{hold, settle, serve, settleOrServe, handBack}
 use Rattle.facts.specs.Wires.{wire}
+use Rattle.facts.specs.Cases.{settled-either}
 use Rattle.kept.specs.Changed.{changed, changed-same, changed-elsewhere}
 use Rattle.kept.specs.Acts.{now}
 use Rattle.owning.specs.Exact.{settle-weak}
@@ -42,10 +41,9 @@ lower n rooms kept height a b w h r = record { height = height; leads = r .leads
 module _ (n : ℕ) (rooms : ℕ → Room) (kept : List Wire) (height : ℕ → ℕ) (b : ℕ) (w : Work) where
   -- "Settle (without the token)": the level that falls pays for the REDUCE
   pub weighs-settle : Owing n rooms kept w → Rests n rooms kept height b w → Rests n rooms kept height b (settle w)
-  unfolding settle settled sendOut send
+  unfolding settle sendOut send
   weighs-settle a r =
-      by-test (λ (c : Changed). Rests n rooms kept height b (change w c)) (isStronger (w .room .credit) own)
-      (record { room = paid; send = out.Reduce (w .room .lender) (w .room .link) own }) (record { room = w .room; send = out.Nothing })
+      settled-either (w .room) (λ (c : Changed). Rests n rooms kept height b (change w c))
       (λ falls. record {
         leads =
             rw (← append-assoc kept (w .sent) (reduce ∷ []))

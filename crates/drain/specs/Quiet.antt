@@ -16,7 +16,7 @@ use Rattle.table.specs.Numbers.{DONE}
 use Rattle.table.specs.Tables.{roomAt, messagesOf}
 use Rattle.table.specs.Oldest.{oldestIn, oldestOf}
 use Rattle.rules.specs.declared.Event.{Event}
-use Rattle.rules.specs.Events.{HANDBACK, DELIVER}
+use Rattle.rules.specs.Events.{handsBack, delivers}
 use Rattle.rules.specs.Step.{stepOf}
 use Rattle.safe.specs.Reached.{Reached}
 use Rattle.safe.specs.Always.{reached-safe, delivery-accepted, hand-back-accepted}
@@ -30,13 +30,6 @@ pub record Quiet (t : Table) : Type 0 where
 abbrev pub Moves : Table → Type 0
 Moves t = (e : Event) × (isDraining e ≡ true) × (stepOf t e .«number» ≡ DONE)
 
--- DELIVER(a, b) and HANDBACK(c)
-abbrev delivery : ℕ → ℕ → Event
-delivery a b = record { kind = DELIVER; room = a; other = b; mode = 0 }
-
-abbrev handing : ℕ → Event
-handing c = record { kind = HANDBACK; room = c; other = 0; mode = 0 }
-
 -- the first message of all is the oldest on its wire
 first-found : (t : Table) (w : Wire) (l : List Wire) → messagesOf t ≡ w ∷ l → oldestOf t (w .«from») (w .to) ≡ found.At 0 (w .message)
 unfolding oldestOf oldestIn
@@ -49,7 +42,7 @@ module _ (n : ℕ) (t : Table) (r : Reached n t) where
 
   free-moves : (c : ℕ) → c < t .n → isFree c ≡ true → Moves t
   unfolding isFree isDraining
-  free-moves c low h = (handing c, refl, hand-back-accepted n t r (handing c) refl (omega (arith, reached-safe n t r .rooms)) holds idle)
+  free-moves c low h = (handsBack c, refl, hand-back-accepted n t r (handsBack c) refl (omega (arith, reached-safe n t r .rooms)) holds idle)
     where
       holds : roomAt t c .held ≢ 0
       holds = eqb-false _ _ (not-true _ (and-left _ _ h))
@@ -60,7 +53,7 @@ module _ (n : ℕ) (t : Table) (r : Reached n t) where
   wire-moves : (w : Wire) (l : List Wire) → messagesOf t ≡ w ∷ l → Moves t
   unfolding isDraining
   wire-moves w l h =
-      (delivery (w .«from») (w .to), refl, delivery-accepted n t r (delivery (w .«from») (w .to)) refl 0 (w .message) (first-found t w l h))
+      (delivers (w .«from») (w .to), refl, delivery-accepted n t r (delivers (w .«from») (w .to)) refl 0 (w .message) (first-found t w l h))
 
   -- whoever is not free and holds waits
   bound-waits : ((c : ℕ) → c < t .n → isFree c ≡ false) → (c : ℕ) → c < t .n → roomAt t c .held ≢ 0 → roomAt t c .wanted ≢ 0

@@ -3,14 +3,13 @@ use mathlib.Core.Path.{_≡_, refl, sym, _∙_, ap, subst}
 use mathlib.Core.Logic.{_≢_, ⊎-elim}
 use mathlib.Core.Bool.{true, false, _&&_}
 use mathlib.Core.List.{List, [], _∷_, List·Memᴰ·head, List·Memᴰ·not-nil}
-use Prim.Native.Nat.{ℕ, zero, suc, _+_, _*_, _≤_, _<_}
+use Prim.Native.Nat.{ℕ, zero, suc, _+_, _≤_, _<_}
 use native.Mathlib.Omega.{arith}
 use lib.Dec.{ltb, eqb}
-use borrow.Author.Tests.{ltb-false, eqb-false}
+use borrow.Author.Tests.{ltb-false}
 use Rattle.base.specs.Choice.{split}
 use Rattle.base.specs.Tests.{clash}
-use Rattle.base.specs.Below.{all-of, some-or-none}
-use Rattle.base.specs.Sums.{one, sum, sum-at, sum-bound, same?, below?}
+use Rattle.base.specs.Sums.{one, sum, sum-at, same?, below?}
 use Rattle.base.specs.Lists.{Mem, total}
 use Rattle.base.specs.Folds.{folds}
 use Rattle.modes.specs.Codes.{U, W}
@@ -20,17 +19,20 @@ use Rattle.room.specs.declared.Entry.{Entry}
 use Rattle.room.specs.Limits.{roomLimit}
 use Rattle.room.specs.Record.{entryAt}
 use Rattle.room.specs.Owned.{owned, hasNoEntries}
-use Rattle.room.proofs.Owning.{owned-none}
+use Rattle.room.proofs.Owning.{no-entries-of, owned-none}
 use Rattle.table.specs.declared.Table.{Table}
 use Rattle.table.specs.declared.Queued.{Queued}
 use Rattle.table.specs.Tables.{roomAt, queueOf}
-use Rattle.table.specs.Formed.{due, tokens, names}
+use Rattle.table.specs.Formed.{due, names}
 use Rattle.rules.specs.Rules.{upgradeWaits}
 use Rattle.facts.specs.Rooms.{RoomFacts}
+use Rattle.facts.specs.Due.{due-wanted}
 use Rattle.facts.specs.Moments.{QueuedFacts}
+use Rattle.facts.specs.Tokens.{token-somewhere}
 use Rattle.ledger.specs.Loans.{debt}
 use Rattle.ledger.specs.Debts.{debt-here, debt-none}
 use Rattle.owning.specs.Clauses.{Blocked}
+use Rattle.owning.specs.Blocked.{blocked-not, blocked-empty}
 use Rattle.safe.specs.Invariant.{Invariant}
 use Rattle.safe.specs.Reached.{Reached}
 use Rattle.safe.specs.Step.{Safe}
@@ -41,10 +43,9 @@ use Rattle.drain.specs.Quiet.{Quiet, quiet-or-moves}
 -- a room that owns nothing does not block the head of a queue
 unblocked : (n : ℕ) (rooms : ℕ → Room) (r : Room) (queue : List Queued) → ((q : Queued) → Mem q queue → QueuedFacts n rooms q)
     → owned r ≡ 0 → Blocked r queue → ⊥
-unfolding Blocked
-unblocked n rooms r [] facts none b = b
+unblocked n rooms r [] facts none b = blocked-empty r b
 unblocked n rooms r (q ∷ rest) facts none b =
-    clash (none-agrees (q .mode) (omega (arith, facts q (List·Memᴰ·head refl) .code))) (rw none at b)
+    blocked-not r q rest (rw none (none-agrees (q .mode) (omega (arith, facts q (List·Memᴰ·head refl) .code)))) b
 
 module _ (n : ℕ) (rooms : ℕ → Room) (queue : List Queued) (i : Invariant n rooms queue []) (limit : n ≤ roomLimit)
     (waits : (c : ℕ) → c < n → rooms c .held ≢ 0 → rooms c .wanted ≢ 0) where
@@ -87,11 +88,10 @@ module _ (n : ℕ) (rooms : ℕ → Room) (queue : List Queued) (i : Invariant n
 
   -- with no such room there is no entry
   no-entries : (p : ℕ) → p < n → ((c : ℕ) → c < n → rooms c .token ≡ false → rank p < rank c → owned (rooms c) ≡ 0) → hasNoEntries (rooms p) ≡ true
-  unfolding hasNoEntries
   no-entries p lp none =
-      all-of roomLimit (λ c. eqb (entryAt (rooms p) c .mode) 0) λ c h.
-      split (eqb (entryAt (rooms p) c .mode) 0) (λ e. e)
-      (λ e. let b = borrower p c lp h (eqb-false _ _ e) in absurd (b .some (none c (b .low) (b .without) (b .higher))))
+      no-entries-of (rooms p) λ c h.
+      ⊎-elim (λ e. e) (λ e. let b = borrower p c lp h e in absurd (b .some (none c (b .low) (b .without) (b .higher))))
+      (same? (entryAt (rooms p) c .mode) 0)
 
   -- only an upgrade is held while it waits, and that with the token
   free : (c : ℕ) → c < n → rooms c .token ≡ false → rooms c .held ≡ 0
@@ -134,11 +134,8 @@ module _ (n : ℕ) (rooms : ℕ → Room) (queue : List Queued) (i : Invariant n
 
   -- some room has the token
   holder : (r : ℕ) × (r < n) × (rooms r .token ≡ true)
-  unfolding tokens total
-  holder = ⊎-elim (λ f. f) (λ f. absurd (omega (arith, i .sound .token, nobody-has f))) (some-or-none n (λ c. rooms c .token))
-    where
-      nobody-has : ((c : ℕ) → c < n → rooms c .token ≡ false) → sum n (λ c. one (rooms c .token)) ≤ n * 0
-      nobody-has f = sum-bound n 0 (λ c. one (rooms c .token)) (λ c h. omega (arith, ap one (f c h)))
+  holder =
+      ⊎-elim (λ f. f) (λ f. absurd (List·Memᴰ·not-nil (f .1))) (token-somewhere n rooms [] (omega (arith, i .sound .token)))
 
   nobody-holds : (c : ℕ) → c < n → rooms c .held ≡ 0
   nobody-holds c low = split (rooms c .token) (root-free c low) (free c low)
@@ -155,8 +152,7 @@ module _ (n : ℕ) (rooms : ℕ → Room) (queue : List Queued) (i : Invariant n
       (λ e. omega (arith, ltb-false 0 (due (rooms c)) e))
 
   nobody-waits : (c : ℕ) → c < n → rooms c .wanted ≡ 0
-  unfolding due
-  nobody-waits c low = rw (nobody-holds c low) at (not-due c low)
+  nobody-waits c low = sym (due-wanted (rooms c) (nobody-holds c low)) ∙ not-due c low
 
 -- "When no more can be accepted" nobody waits.
 pub resting : (n : ℕ) (t : Table) → Reached n t → Resting t → (c : ℕ) → c < n → roomAt t c .wanted ≡ 0

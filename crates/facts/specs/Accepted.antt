@@ -8,7 +8,7 @@ use native.Mathlib.Omega.{arith}
 use lib.Dec.{ltb, leb, eqb}
 use borrow.Author.Tests.{ltb-true, leb-true, leb-false, eqb-true, eqb-false, ne-eqb, not-false}
 use Rattle.base.specs.Choice.{by-test}
-use Rattle.base.specs.Tests.{and-left, and-right}
+use Rattle.base.specs.Tests.{and-left, and-right, clash}
 use Rattle.base.specs.Below.{all-at}
 use Rattle.modes.specs.Codes.{IR, U, W}
 use Rattle.table.specs.declared.Table.{Table}
@@ -120,3 +120,7 @@ unfolding stepOf
 unrefused t e =
     by-test (λ (r : Answer). r .«number» ≡ DONE → refusal t e ≡ DONE) (eqb (refusal t e) DONE) (made t e) (answer (refusal t e) t)
     (λ b h. eqb-true _ _ b) (λ b h. h)
+
+-- on a table that is not well formed none is accepted
+pub ill-formed-refused : (t : Table) (e : Event) → wellFormed t ≡ false → stepOf t e .«number» ≢ DONE
+ill-formed-refused t e h done = clash (accepted t e (unrefused t e done) .formed) h

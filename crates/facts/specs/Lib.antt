@@ -1,6 +1,7 @@
 pub mod Places
 pub mod Shapes
 pub mod Rooms
+pub mod Due
 pub mod Moments
 pub mod Messages
 pub mod Blank

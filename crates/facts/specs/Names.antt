@@ -25,6 +25,13 @@ isNaming (msg.Grant m l) = true
 isNaming (msg.Token m rest l) = true
 isNaming (msg.Reduce l m) = false
 
+unfoldable pub isRequest : Message → Bool
+isRequest msg.Nothing = false
+isRequest (msg.Request o m idle) = true
+isRequest (msg.Grant m l) = false
+isRequest (msg.Token m rest l) = false
+isRequest (msg.Reduce l m) = false
+
 -- how many rooms of n a message names: one or none
 names-one : (n : ℕ) (rooms : ℕ → Room) (to : ℕ) (m : Message) → to < n → Proper n rooms to m
     → sum n (λ c. one (isNamedIn c to m)) ≡ one (isNaming m)

@@ -1,14 +1,15 @@
 -- Counting the tokens: where there is at most one, a room that has it has it alone, and none is under way beside it.
 use mathlib.Core.Path.{_≡_, ap}
-use mathlib.Core.Logic.{_≢_}
+use mathlib.Core.Logic.{_≢_, _⊎_, inl, inr, ⊎-elim}
 use mathlib.Core.Bool.{true, false}
 use mathlib.Core.List.{List}
 use Prim.Native.Nat.{ℕ, _≤_, _<_}
 use native.Mathlib.Omega.{arith}
 use Rattle.base.specs.Choice.{split}
 use Rattle.base.specs.Tests.{clash}
-use Rattle.base.specs.Sums.{one, sum-at, sum-two}
-use Rattle.base.specs.Lists.{Mem, mem-total}
+use Rattle.base.specs.Below.{some-or-none}
+use Rattle.base.specs.Sums.{one, sum-at, sum-bound, sum-two}
+use Rattle.base.specs.Lists.{Mem, count, count-found, mem-total}
 use Rattle.room.specs.declared.Room.{Room}
 use Rattle.table.specs.declared.Wire.{Wire}
 use Rattle.table.specs.Formed.{isToken, tokens}
@@ -25,6 +26,15 @@ module _ (n : ℕ) (rooms : ℕ → Room) (messages : List Wire) where
     unfolding tokens
     gone-quiet w m =
         split (isToken (w .message)) (λ t. absurd (omega (arith, mem-total (λ w. one (isToken (w .message))) m, ap one t))) (λ t. t)
+
+  -- some are counted: a room has the token, or a TOKEN is under way
+  pub token-somewhere : 1 ≤ tokens n rooms messages
+      → ((c : ℕ) × (c < n) × (rooms c .token ≡ true)) ⊎ ((w : Wire) × Mem w messages × (isToken (w .message) ≡ true))
+  unfolding tokens
+  token-somewhere some = ⊎-elim inl (λ none. inr (count-found (λ w. isToken (w .message)) messages (carried none))) (some-or-none n (λ c. rooms c .token))
+    where
+      carried : ((c : ℕ) → c < n → rooms c .token ≡ false) → 1 ≤ count (λ w. isToken (w .message)) messages
+      carried none = omega (arith, sum-bound n 0 (λ c. one (rooms c .token)) (λ c h. omega (arith, ap one (none c h))))
 
   -- at most one is counted
   module _ (sole : tokens n rooms messages ≤ 1) where

@@ -22,6 +22,7 @@ use Rattle.base.specs.Sums.{sum}
 use Rattle.base.specs.Lists.{total, remove}
 use Rattle.base.specs.Arrays.{padded}
 use Rattle.rules.specs.declared.Event.{Event}
+use Rattle.rules.specs.Events.{delivers}
 use Rattle.rules.specs.Work.{send, sendOut}
 use Rattle.rules.specs.Rules.{lend, settle, takeRequest, receive}
 use Rattle.rules.specs.Refusals.{first, isFound, anyWorn, refusalAs, refusal}
@@ -42,7 +43,7 @@ bareTable =
 
 -- DELIVER(0, 1)
 unfoldable pub bareEvent : Event
-bareEvent = record { kind = 3; room = 0; mode = 0; other = 1 }
+bareEvent = delivers 0 1
 
 -- The delivery is accepted, and puts a GRANT on the way to the room with the token.
 pub bare-not-kept : Shaped bareTable × (wellFormed bareTable ≡ true) × (stepOf bareTable bareEvent .«number» ≡ 0)

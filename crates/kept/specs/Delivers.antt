@@ -15,8 +15,6 @@ use Rattle.modes.specs.Codes.{W}
 use Rattle.modes.specs.Modes.{canLend}
 use Rattle.modes.proofs.Laws.{small-code, small-weak}
 use Rattle.room.specs.declared.Room.{Room}
-use Rattle.room.specs.declared.Send.{Send}
-use Rattle.room.specs.declared.Send.the-variants as out
 use Rattle.room.specs.Limits.{roomLimit, nobody}
 use Rattle.room.specs.Record.{entryOf, withModes, withToken, withDebt, setEntry}
 use Rattle.room.specs.Owned.{owned}
@@ -25,13 +23,14 @@ use Rattle.table.specs.declared.Wire.{Wire}
 use Rattle.table.specs.declared.Message.{Message}
 use Rattle.table.specs.declared.Message.the-variants as msg
 use Rattle.table.specs.Formed.{due, isToken, isNamedIn, names}
-use Rattle.rules.specs.Work.{Work, withRoom, send, join, sendOut, change}
+use Rattle.rules.specs.Work.{Work, withRoom, send, join, change}
 use Rattle.rules.specs.Rules.{lend, settle, serve, takeRequest, receive}
 use Rattle.facts.specs.Rooms.{RoomFacts}
+use Rattle.facts.specs.Due.{due-none, due-same}
 use Rattle.facts.specs.Moments.{QueuedFacts}
 use Rattle.facts.specs.Messages.{GrantFacts, TokenFacts, proper}
 use Rattle.facts.specs.Tokens.{gone-tokenless}
-use Rattle.facts.specs.Wires.{wire}
+use Rattle.facts.specs.Wires.{wire, sent-out}
 use Rattle.facts.specs.Cases.{reduced-either}
 use Rattle.kept.specs.Changed.{changed-same}
 use Rattle.kept.specs.Moment.{Right, empty}
@@ -40,14 +39,8 @@ use Rattle.kept.specs.Acts.{At, Whole, now, only, own-room, own-names, s
 use Rattle.kept.specs.Sends.{put-request, put-leaving}
 use Rattle.kept.specs.Settle.{settle-kept}
 use Rattle.kept.specs.Loans.{lend-kept}
-use Rattle.kept.specs.Turns.{held-waits, waits-one}
+use Rattle.kept.specs.Turns.{waits-one}
 use Rattle.kept.specs.Serve.{serve-kept, settle-or-serve-kept}
-
--- what is sent leaves the record as it is
-sent-room : (w : Work) (s : Send) → sendOut w s .room ≡ w .room
-unfolding sendOut send
-sent-room w out.Nothing = refl
-sent-room w (out.Reduce y l m) = refl
 
 module _ (n : ℕ) (rooms : ℕ → Room) (kept : List Wire) (w : Work) (from : ℕ) where
   -- the room that acts, as it is among the rooms now
@@ -110,7 +103,7 @@ module _ (n : ℕ) (rooms : ℕ → Room) (kept : List Wire) (w : Work) (from : 
         (λ e. absurd (small-weak m (grant .weak) .1 e)) (λ p z. absurd (z refl)))
         from m l (a .small) from-low apart (grant .some) code (ap (λ (r : Room). r .token) (sym own) ∙ grant .without))
         (a .long) (unnamed m 0 (grant .some) (grant .waits) a) empty 0 ended
-        (sym (ap (λ (d : ℕ). one (ltb 0 d)) (held-waits (withDebt (w .room) from m l) m (grant .some)))) refl)
+        (sym (ap (λ (d : ℕ). one (ltb 0 d)) (due-none lending refl))) refl)
       where
         facts : RoomFacts n (w .me) (w .room)
         facts = own-room n rooms kept w (only (w .me)) 0 a
@@ -133,7 +126,7 @@ module _ (n : ℕ) (rooms : ℕ → Room) (kept : List Wire) (w : Work) (from : 
     arrived-kept m rest l arrives a =
         put-leaving n rooms kept (withRoom w rooted) (w .room) from (facts .lender-low) (facts .lender-other)
         (set-unnamed n rooms kept w (only (w .me)) 1 a rooted rooted-facts long (unnamed m 1 (arrives .some) (arrives .waits) a) empty 0 ended
-        (sym (ap (λ (d : ℕ). one (ltb 0 d)) (held-waits rooted m (arrives .some))))
+        (sym (ap (λ (d : ℕ). one (ltb 0 d)) (due-none rooted refl)))
         (rw (tokenless a) refl))
       where
         facts : RoomFacts n (w .me) (w .room)
@@ -167,17 +160,16 @@ module _ (n : ℕ) (rooms : ℕ → Room) (kept : List Wire) (w : Work) (from : 
     unfolding receive tokened tokenedBy
     token-kept m rest l arrives a =
         serve-kept n rooms kept (change w (tokened (w .room) (w .me) from m rest l)) (arrived-kept m rest l arrives a)
-        (ap (λ (r : Room). r .token) (sent-room (withRoom w (tokenedBy (w .room) (w .me) from m rest l)) (leaving (w .room) from)))
+        (ap (λ (v : Work). v .room .token) (sent-out (withRoom w (tokenedBy (w .room) (w .me) from m rest l)) (leaving (w .room) from)))
 
     -- "REDUCE: if b's entry for a has this link number and a stronger mode than the new one, it takes the new mode; else the message is dropped."
     pub reduced-kept : (l m : ℕ) → m ≤ W → Whole n rooms kept w → Whole n rooms kept (withRoom w (reduced (w .room) from l m))
-    unfolding due
     reduced-kept l m code a =
         reduced-either (w .room) from l m (λ (r : Room). Whole n rooms kept (withRoom w r))
-        (set-alike n rooms kept w empty 0 a (setEntry (w .room) from (entryOf m l))
+        (λ e. set-alike n rooms kept w empty 0 a (setEntry (w .room) from (entryOf m l))
         (entry-set-facts n (w .me) (w .room) (own-room n rooms kept w empty 0 a) from m l (a .small) (a .long) from-low apart code)
-        (length-set (w .room .entries) from (entryOf m l) ∙ a .long) refl refl)
-        a
+        (length-set (w .room .entries) from (entryOf m l) ∙ a .long) (due-same (w .room) _ refl refl) refl)
+        (λ e. a)
 
     reduce-kept : (l m : ℕ) → m ≤ W → Whole n rooms kept w → Whole n rooms kept (receive w from (msg.Reduce l m))
     unfolding receive

@@ -17,6 +17,7 @@ use Rattle.table.specs.Tables.{roomAt, freshTable}
 use Rattle.table.specs.Formed.{due, tokens, names}
 use Rattle.facts.specs.Shapes.{Shaped}
 use Rattle.facts.specs.Rooms.{RoomFacts, EntryFacts}
+use Rattle.facts.specs.Due.{due-none}
 use Rattle.facts.specs.Whole.{WellFormed, test-of}
 use Rattle.kept.specs.After.{Lawful}
 
@@ -24,22 +25,23 @@ use Rattle.kept.specs.After.{Lawful}
 abbrev pub first : Room
 first = withToken blankRoom true 0
 
-module _ (n : ℕ) (some : 1 ≤ n) (small : n ≤ roomLimit) where
+module _ (n : ℕ) where
   room-first : roomAt (freshTable n) 0 ≡ first
   unfolding freshTable
   room-first = refl
 
-  room-other : (c : ℕ) → c < roomLimit → c ≢ 0 → roomAt (freshTable n) c ≡ blankRoom
+  pub room-other : (c : ℕ) → c < roomLimit → c ≢ 0 → roomAt (freshTable n) c ≡ blankRoom
   unfolding freshTable
   room-other c l e =
       getD-set-other (replicate roomLimit blankRoom) 0 c first noRoom e ∙ getD-replicate roomLimit c blankRoom noRoom l
 
+module _ (n : ℕ) (some : 1 ≤ n) (small : n ≤ roomLimit) where
   -- what holds of the first room with the token and of each other blank room holds of every room
   pub room-each : (P : ℕ → Room → Type 0) → P 0 first → ((c : ℕ) → c < roomLimit → c ≢ 0 → P c blankRoom)
       → (c : ℕ) → c < roomLimit → P c (roomAt (freshTable n) c)
   unfolding freshTable
   room-each P p q zero l = p
-  room-each P p q (suc c) l = subst⁻¹ (P (suc c)) (room-other (suc c) l (λ e. omega arith)) (q (suc c) l (λ e. omega arith))
+  room-each P p q (suc c) l = subst⁻¹ (P (suc c)) (room-other n (suc c) l (λ e. omega arith)) (q (suc c) l (λ e. omega arith))
 
   entry-fresh : (c j : ℕ) → EntryFacts n c j noEntry
   entry-fresh c j = record { code = omega arith; unlinked = λ e. refl; outside = λ e. refl; own = λ e. refl }
@@ -98,13 +100,12 @@ module _ (n : ℕ) (some : 1 ≤ n) (small : n ≤ roomLimit) where
   one-token = omega (
     arith,
     sum-bound n 0 (λ c. 0) (λ c l. omega arith),
-    sum-differ n (λ c. 0) (λ c. one (roomAt (freshTable n) c .token)) 0 some (λ c l e. sym (ap (λ (r : Room). one (r .token)) (room-other c (omega arith) e))),
-    ap (λ (r : Room). one (r .token)) room-first,
+    sum-differ n (λ c. 0) (λ c. one (roomAt (freshTable n) c .token)) 0 some (λ c l e. sym (ap (λ (r : Room). one (r .token)) (room-other n c (omega arith) e))),
+    ap (λ (r : Room). one (r .token)) (room-first n),
   )
 
   no-due : (c : ℕ) → c < n → due (roomAt (freshTable n) c) ≡ 0
-  unfolding due
-  no-due c l = room-each (λ c r. due r ≡ 0) refl (λ c b e. refl) c (omega arith)
+  no-due c l = room-each (λ c r. due r ≡ 0) (due-none first refl) (λ c b e. due-none blankRoom refl) c (omega arith)
 
   shaped : Shaped (freshTable n)
   unfolding freshTable
@@ -132,7 +133,7 @@ module _ (n : ℕ) (some : 1 ≤ n) (small : n ≤ roomLimit) where
               token = one-token;
               named = λ c l. rw (no-due c l) refl;
             };
-        rooms-blank = λ c a b. room-other c b (λ e. omega arith);
+        rooms-blank = λ c a b. room-other n c b (λ e. omega arith);
         queue-blank = refl;
         wires-blank = refl;
       }

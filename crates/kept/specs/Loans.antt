@@ -5,10 +5,7 @@ use mathlib.Core.Bool.{Bool, true, false}
 use mathlib.Core.List.{List}
 use Prim.Native.Nat.{ℕ, _≤_, _<_}
 use native.Mathlib.Omega.{arith}
-use lib.Dec.{eqb}
 use lib.ListN.{length, set, length-set}
-use borrow.Author.Tests.{eqb-false}
-use Rattle.base.specs.Choice.{by-test}
 use Rattle.modes.specs.Codes.{R, U, W}
 use Rattle.modes.specs.Modes.{agrees, canLend}
 use Rattle.modes.proofs.Laws.{lends-some, lends-small, lends-codes, not-lent-low}
@@ -23,6 +20,8 @@ use Rattle.table.specs.Formed.{due}
 use Rattle.rules.specs.Work.{Work, withRoom, withWorn}
 use Rattle.rules.specs.Rules.{lend, pass}
 use Rattle.facts.specs.Rooms.{RoomFacts, owned-code}
+use Rattle.facts.specs.Due.{due-same}
+use Rattle.facts.specs.Cases.{passed-either}
 use Rattle.kept.specs.Changed.{changed, changed-elsewhere}
 use Rattle.kept.specs.Records.{counter-facts, lost-facts, owing-facts, entry-set-facts}
 use Rattle.kept.specs.Acts.{At, Whole, now, only, own-room, set-alike, set-passing}
@@ -41,7 +40,7 @@ module _ (n : ℕ) (rooms : ℕ → Room) (kept : List Wire) (w : Work) (y m : �
   -- "Lend m to y": y waits for m and has no token
   pub lend-kept : canLend (owned (w .room)) m ≡ true → due (now rooms w y) ≡ m → now rooms w y .token ≡ false
       → At n rooms kept w (only y) 0 → Whole n rooms kept (lend w y m)
-  unfolding lend lent lentTo due
+  unfolding lend lent lentTo
   lend-kept can waits without a =
       put-grant n rooms kept (withWorn (withRoom w after) (isWorn (w .room .counter))) y low other m (nextLink (w .room .counter))
       (record {
@@ -51,7 +50,7 @@ module _ (n : ℕ) (rooms : ℕ → Room) (kept : List Wire) (w : Work) (y m : �
         without = ap (λ (r : Room). r .token) (there after) ∙ without;
       })
       (worn-too n rooms kept (withRoom w after) (isWorn (w .room .counter)) (only y) 0
-      (set-alike n rooms kept w (only y) 0 a after facts long refl refl))
+      (set-alike n rooms kept w (only y) 0 a after facts long (due-same (w .room) after refl refl) refl))
     where
       after : Room
       after = lentTo (w .room) y m
@@ -69,7 +68,7 @@ module _ (n : ℕ) (rooms : ℕ → Room) (kept : List Wire) (w : Work) (y m : �
   -- "Passing to w": what the room owns agrees with m but cannot lend it, so it holds neither U nor W
   pub pass-kept : 1 ≤ m → m ≤ W → agrees (owned (w .room)) m ≡ true → canLend (owned (w .room)) m ≡ false → w .room .token ≡ true
       → due (now rooms w y) ≡ m → At n rooms kept w (only y) 0 → Whole n rooms kept (pass w y m)
-  unfolding pass passed passedTo left remaining entryOf due
+  unfolding pass passed left remaining entryOf
   pass-kept some code agree cannot with waits a =
       put-token n rooms kept (withWorn (withRoom w after) (isWorn (w .room .counter))) y low other m (remaining (w .room) y) (nextLink (w .room .counter))
       (record { some = some; code = code; rest-code = rest-code; waits = ap due (there after) ∙ waits })
@@ -101,10 +100,9 @@ module _ (n : ℕ) (rooms : ℕ → Room) (kept : List Wire) (w : Work) (y m : �
       -- "if what remains isn't none, lender w, credit what remains, that link number"
       given : At n rooms kept (withRoom w after) (only y) 1
       given =
-          by-test (λ (r : Room). At n rooms kept (withRoom w r) (only y) 1) (eqb (remaining (w .room) y) 0)
-          (left (w .room) y) owing
-          (λ e. set-passing n rooms kept w (only y) 0 a (left (w .room) y) gone long refl with refl)
-          (λ e. set-passing n rooms kept w (only y) 0 a owing (owing-now (eqb-false _ _ e)) long refl with refl)
+          passed-either (w .room) y (λ (r : Room). At n rooms kept (withRoom w r) (only y) 1)
+          (λ e. set-passing n rooms kept w (only y) 0 a (left (w .room) y) gone long (due-same (w .room) _ refl refl) with refl)
+          (λ e. set-passing n rooms kept w (only y) 0 a owing (owing-now e) long (due-same (w .room) _ refl refl) with refl)
         where
           long : length (set (w .room .entries) y noEntry) ≡ roomLimit
           long = length-set (w .room .entries) y noEntry ∙ a .long

@@ -1,5 +1,5 @@
 -- "Serve (with the token)": every turn keeps a moment whole, and so does the loop over the queue.
-use mathlib.Core.Path.{_≡_, refl, sym}
+use mathlib.Core.Path.{_≡_, refl, sym, _∙_}
 use mathlib.Core.Bool.{true, not, _&&_}
 use mathlib.Core.List.{List, [], _∷_}
 use Prim.Native.Nat.{ℕ}
@@ -8,7 +8,7 @@ use lib.Dec.{eqb}
 use borrow.Author.Tests.{eqb-true, eqb-false, not-false}
 use Rattle.base.specs.Choice.{by-test}
 use Rattle.base.specs.Tests.{and-left}
-use Rattle.modes.specs.Codes.{U, W}
+use Rattle.modes.specs.Codes.{W}
 use Rattle.modes.specs.Modes.{agrees, canLend}
 use Rattle.room.specs.declared.Room.{Room}
 use Rattle.room.specs.Record.{withModes}
@@ -20,6 +20,7 @@ use Rattle.table.specs.Formed.{due}
 use Rattle.rules.specs.Work.{Work, withQueue, send}
 use Rattle.rules.specs.Rules.{hold, lend, settle, upgradeWaits, upgraded, serveQueue, serve, settleOrServe}
 use Rattle.facts.specs.Rooms.{RoomFacts}
+use Rattle.facts.specs.Due.{due-none, upgrade-due}
 use Rattle.kept.specs.Moment.{empty}
 use Rattle.kept.specs.Records.{modes-facts}
 use Rattle.kept.specs.Acts.{Whole, own-room, set-alike}
@@ -44,17 +45,17 @@ module _ (n : ℕ) (rooms : ℕ → Room) (kept : List Wire) where
   module _ (w : Work) (a : Whole n rooms kept w) where
     -- "a waiting upgrade with no entries becomes a held W": it was not named before and is not after
     pub upgraded-kept : w .room .token ≡ true → Whole n rooms kept (withQueue (upgraded w) (w .queue))
-    unfolding upgraded upgradeWaits hold due
+    unfolding upgraded hold
     upgraded-kept with =
         by-test (λ (v : Work). Whole n rooms kept (withQueue v (w .queue))) (upgradeWaits (w .room) && hasNoEntries (w .room)) (hold w W) w
-        (λ e. set-alike n rooms kept w empty 0 a (withModes (w .room) W 0) facts (a .long) (sym (none e)) refl)
+        (λ e. set-alike n rooms kept w empty 0 a (withModes (w .room) W 0) facts (a .long) (due-none (withModes (w .room) W 0) refl ∙ sym (none e)) refl)
         (λ e. a)
       where
         facts : RoomFacts n (w .me) (withModes (w .room) W 0)
         facts = modes-facts n (w .me) (w .room) (own-room n rooms kept w empty 0 a) W 0 (omega arith) (omega arith) (λ e. with) (λ e. with) (λ p z. absurd (z refl))
 
         none : (upgradeWaits (w .room) && hasNoEntries (w .room)) ≡ true → due (w .room) ≡ 0
-        none e = rw (eqb-true (w .room .held) U (and-left (eqb (w .room .held) U) _ (and-left (upgradeWaits (w .room)) _ e))) refl
+        none e = upgrade-due (w .room) (and-left (upgradeWaits (w .room)) _ e)
 
     pub upgraded-token : w .room .token ≡ true → upgraded w .room .token ≡ true
     unfolding upgraded hold

@@ -5,23 +5,19 @@ use mathlib.Core.Bool.{false}
 use mathlib.Core.List.{List}
 use Prim.Native.Nat.{ℕ, _<_}
 use native.Mathlib.Omega.{arith}
-use lib.Dec.{eqb}
-use borrow.Author.Tests.{eqb-true, eqb-false}
-use Rattle.base.specs.Choice.{by-test}
-use Rattle.modes.specs.Modes.{isStronger}
 use Rattle.modes.proofs.Laws.{stronger-true}
 use Rattle.room.specs.declared.Room.{Room}
 use Rattle.room.specs.declared.Changed.{Changed}
-use Rattle.room.specs.declared.Send.the-variants as out
 use Rattle.room.specs.Limits.{nobody}
 use Rattle.room.specs.Record.{withDebt}
 use Rattle.room.specs.Owned.{owned}
-use Rattle.room.specs.Rules.{credited, settled}
+use Rattle.room.specs.Rules.{credited}
 use Rattle.table.specs.declared.Wire.{Wire}
-use Rattle.table.specs.Formed.{due}
 use Rattle.rules.specs.Work.{Work, withRoom, change, sendOut}
 use Rattle.rules.specs.Rules.{settle}
 use Rattle.facts.specs.Rooms.{RoomFacts, owned-code}
+use Rattle.facts.specs.Due.{due-same}
+use Rattle.facts.specs.Cases.{credited-either, settled-either}
 use Rattle.kept.specs.Moment.{empty}
 use Rattle.kept.specs.Records.{free-facts, owing-facts}
 use Rattle.kept.specs.Acts.{Whole, own-room, set-alike}
@@ -37,12 +33,10 @@ module _ (n : ℕ) (rooms : ℕ → Room) (kept : List Wire) (w : Work) (a : Who
 
   -- "credit becomes owned, and at none the lender is nobody"
   owing-less : owned (w .room) < w .room .credit → Whole n rooms kept (withRoom w (credited (w .room) (owned (w .room))))
-  unfolding credited due
   owing-less h =
-      by-test (λ (r : Room). Whole n rooms kept (withRoom w r)) (eqb (owned (w .room)) 0)
-      (withDebt (w .room) nobody (owned (w .room)) 0) (withDebt (w .room) (w .room .lender) (owned (w .room)) (w .room .link))
-      (λ e. rw (eqb-true (owned (w .room)) 0 e) (set-alike n rooms kept w empty 0 a _ (free-facts n (w .me) (w .room) facts (a .low) (a .small)) (a .long) refl refl))
-      (λ e. set-alike n rooms kept w empty 0 a _ (owing (eqb-false _ _ e)) (a .long) refl refl)
+      credited-either (w .room) (owned (w .room)) (λ (r : Room). Whole n rooms kept (withRoom w r))
+      (λ e. rw e (set-alike n rooms kept w empty 0 a _ (free-facts n (w .me) (w .room) facts (a .low) (a .small)) (a .long) (due-same (w .room) _ refl refl) refl))
+      (λ e. set-alike n rooms kept w empty 0 a _ (owing e) (a .long) (due-same (w .room) _ refl refl) refl)
     where
       owing : owned (w .room) ≢ 0 → RoomFacts n (w .me) (withDebt (w .room) (w .room .lender) (owned (w .room)) (w .room .link))
       owing e =
@@ -50,11 +44,9 @@ module _ (n : ℕ) (rooms : ℕ → Room) (kept : List Wire) (w : Work) (a : Who
           (facts .lender-other) (omega arith) (owned-code n (w .me) (w .room) facts) without
 
   pub settle-kept : Whole n rooms kept (settle w)
-  unfolding settle settled sendOut
+  unfolding settle sendOut
   settle-kept =
-      by-test (λ (c : Changed). Whole n rooms kept (change w c)) (isStronger (w .room .credit) (owned (w .room)))
-      (record { room = credited (w .room) (owned (w .room)); send = out.Reduce (w .room .lender) (w .room .link) (owned (w .room)) })
-      (record { room = w .room; send = out.Nothing })
+      settled-either (w .room) (λ (c : Changed). Whole n rooms kept (change w c))
       (λ e. let h : owned (w .room) < w .room .credit = stronger-true (w .room .credit) (owned (w .room)) e in
       put-reduce n rooms kept (withRoom w (credited (w .room) (owned (w .room)))) (w .room .lender) (facts .lender-low (has-lender h))
       (facts .lender-other) (w .room .link) (owned (w .room)) (owned-code n (w .me) (w .room) facts) (owing-less h))

@@ -18,6 +18,7 @@ use Rattle.table.specs.Formed.{due, names}
 use Rattle.rules.specs.Work.{Work, withQueue, send}
 use Rattle.rules.specs.Rules.{hold, lend, pass}
 use Rattle.facts.specs.Rooms.{RoomFacts}
+use Rattle.facts.specs.Due.{due-none}
 use Rattle.facts.specs.Moments.{QueuedFacts}
 use Rattle.facts.specs.Tokens.{holder-alone}
 use Rattle.kept.specs.Changed.{changed-same}
@@ -30,11 +31,6 @@ use Rattle.kept.specs.Loans.{lend-kept, pass-kept}
 -- a waiting room counts as 1
 pub waits-one : (r : Room) (m : ℕ) → due r ≡ m → 1 ≤ m → waiting r ≡ 1
 waits-one r m e h = ap one (lt-ltb 0 (due r) (omega arith))
-
--- a room that has just begun to hold waits no more
-pub held-waits : (r : Room) (m : ℕ) → 1 ≤ m → due (withModes r m 0) ≡ 0
-unfolding due
-held-waits r m h = simp (ne-eqb m 0 (λ e. omega arith))
 
 module _ (n : ℕ) (rooms : ℕ → Room) (kept : List Wire) (w : Work) (q : Queued) (rest : List Queued)
     (a : Whole n rooms kept (withQueue w (q ∷ rest))) where
@@ -61,7 +57,7 @@ module _ (n : ℕ) (rooms : ℕ → Room) (kept : List Wire) (w : Work) (q : Que
       set-unnamed n rooms kept (withQueue w rest) (nameOf q) 0 taken (withModes (w .room) (q .mode) 0)
       (modes-facts n (w .me) (w .room) facts (q .mode) 0 (head .code) (omega arith) (λ e. with) (λ e. with) (λ p z. absurd (z refl)))
       (a .long) unnamed empty 0 (λ c l e. sym (ap one (ne-eqb (q .room) c (λ k. e (sym k ∙ self)))))
-      (ap (λ (m : ℕ). one (ltb 0 m)) (sym (held-waits (w .room) (q .mode) (head .some)))) refl
+      (ap (λ (m : ℕ). one (ltb 0 m)) (sym (due-none (withModes (w .room) (q .mode) 0) refl))) refl
     where
       waits : due (w .room) ≡ q .mode
       waits = ap due (sym (changed-same rooms (w .me) (w .room)) ∙ ap (now rooms w) (sym self)) ∙ head .waits

@@ -5,11 +5,10 @@ use mathlib.Core.Bool.{true, false, true≢false}
 use mathlib.Core.List.{List, [], _∷_, _++_}
 use Prim.Native.Nat.{ℕ, _≤_, _<_}
 use native.Mathlib.Omega.{arith}
-use lib.Dec.{eqb}
 use lib.ListN.{length}
 use lib.Seq.{getD-set-same, getD-set-other}
 use borrow.Author.Tests.{lt-ltb, eq-eqb, ne-eqb}
-use Rattle.base.specs.Choice.{by-test, split}
+use Rattle.base.specs.Choice.{split}
 use Rattle.base.specs.Sums.{same?}
 use Rattle.base.specs.Lists.{Mem}
 use Rattle.base.specs.Folds.{folds, folds-still}
@@ -119,23 +118,23 @@ module _ (n : ℕ) (old new : ℕ → Room) (messages : List Wire) (me : ℕ) (o
 
     entries : (c j : ℕ) → entryAt (new c) j ≡ entryAt (old c) j
     entries c j =
-        alike old new me others (λ r. entryAt r j) (rw here (credited-either (old me) m (λ (r : Room). entryAt r j ≡ entryAt (old me) j) refl refl)) c
+        alike old new me others (λ r. entryAt r j) (rw here (credited-either (old me) m (λ (r : Room). entryAt r j ≡ entryAt (old me) j) (λ e. refl) (λ e. refl))) c
 
     -- what the record says now
     debt-now : debt (new me) lender ≡ entryOf m (old me .link)
-    unfolding credited entryOf
+    unfolding entryOf
     debt-now =
         rw here
-        (by-test (λ (r : Room). debt r lender ≡ entryOf m (old me .link)) (eqb m 0) (withDebt (old me) nobody m 0) (withDebt (old me) lender m (old me .link))
-        (λ b. debt-none (withDebt (old me) nobody m 0) lender (λ e. omega arith) ∙ sym (simp b))
-        (λ b. debt-here (withDebt (old me) lender m (old me .link)) lender refl ∙ sym (simp b)))
+        (credited-either (old me) m (λ (r : Room). debt r lender ≡ entryOf m (old me .link))
+        (λ z. debt-none (withDebt (old me) nobody m 0) lender (λ e. omega arith) ∙ sym (simp (eq-eqb m 0 z)))
+        (λ z. debt-here (withDebt (old me) lender m (old me .link)) lender refl ∙ sym (simp (ne-eqb m 0 z))))
 
     -- it says of no other that something is owed
     debt-other : (p : ℕ) → p < n → p ≢ lender → debt (new me) p ≡ noEntry
     debt-other p l e =
         rw here
-        (credited-either (old me) m (λ (r : Room). debt r p ≡ noEntry) (debt-none (withDebt (old me) nobody m 0) p (λ k. omega arith))
-        (debt-none (withDebt (old me) lender m (old me .link)) p (λ k. e (sym k))))
+        (credited-either (old me) m (λ (r : Room). debt r p ≡ noEntry) (λ e. debt-none (withDebt (old me) nobody m 0) p (λ k. omega arith))
+        (λ z. debt-none (withDebt (old me) lender m (old me .link)) p (λ k. e (sym k))))
 
     -- the REDUCE lowers the loan that it is of,
     lowered : flush (record { mode = old me .credit; link = old me .link }) (msg.Reduce (old me .link) m) ≡ entryOf m (old me .link)

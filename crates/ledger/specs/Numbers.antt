@@ -157,7 +157,7 @@ module _ (n : ℕ) (old new : ℕ → Room) (messages : List Wire) (me : ℕ) (o
       token = wire me y (msg.Token m (remaining (old me) y) link)
 
       count : new me .counter ≡ link
-      count = rw here (passed-either (old me) y (λ (r : Room). r .counter ≡ link) refl refl)
+      count = rw here (passed-either (old me) y (λ (r : Room). r .counter ≡ link) (λ e. refl) (λ e. refl))
 
       reaches : link ≤ reach new (messages ++ (token ∷ [])) y me
       reaches =
@@ -167,6 +167,6 @@ module _ (n : ℕ) (old new : ℕ → Room) (messages : List Wire) (me : ℕ) (o
       own : (p : ℕ) → p < n → new me .lender ≡ p → new me .link ≤ reach new (messages ++ (token ∷ [])) p me
       own p lp e =
           passed-either (old me) y (λ (r : Room). new me ≡ r → new me .link ≤ reach new (messages ++ (token ∷ [])) p me)
-          (λ q. absurd (omega (arith, e, ap (λ (r : Room). r .lender) q)))
-          (λ q. rw (sym e ∙ ap (λ (r : Room). r .lender) q, ap (λ (r : Room). r .link) q) reaches)
+          (λ z. λ q. absurd (omega (arith, e, ap (λ (r : Room). r .lender) q)))
+          (λ z. λ q. rw (sym e ∙ ap (λ (r : Room). r .lender) q, ap (λ (r : Room). r .link) q) reaches)
           here

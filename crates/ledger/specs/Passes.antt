@@ -1,14 +1,14 @@
 -- LEDGER is kept where the token goes: the receiver's entry is cleared, and what remains is owed to the receiver.
 use mathlib.Core.Path.{_≡_, refl, sym, _∙_, ap}
 use mathlib.Core.Logic.{_≢_, _⊎_, inl, inr, ⊎-elim}
-use mathlib.Core.Bool.{true, false, true≢false}
+use mathlib.Core.Bool.{false, true≢false}
 use mathlib.Core.List.{List, [], _∷_, _++_}
 use Prim.Native.Nat.{ℕ, _≤_, _<_}
 use native.Mathlib.Omega.{arith}
-use lib.Dec.{eqb}
 use lib.ListN.{length}
 use lib.Seq.{getD-set-same, getD-set-other}
-use Rattle.base.specs.Choice.{by-test, split}
+use borrow.Author.Tests.{eq-eqb, ne-eqb}
+use Rattle.base.specs.Choice.{split}
 use Rattle.base.specs.Sums.{same?}
 use Rattle.base.specs.Lists.{Mem}
 use Rattle.base.specs.Folds.{folds, folds-still}
@@ -58,26 +58,26 @@ module _ (n : ℕ) (old new : ℕ → Room) (messages : List Wire) (me : ℕ) (o
 
   entry-new : entryAt (new me) y ≡ noEntry
   unfolding left
-  entry-new = rw here (passed-either (old me) y (λ (r : Room). entryAt r y ≡ noEntry) cleared cleared)
+  entry-new = rw here (passed-either (old me) y (λ (r : Room). entryAt r y ≡ noEntry) (λ e. cleared) (λ e. cleared))
     where
       cleared : entryAt (left (old me) y) y ≡ noEntry
       cleared = getD-set-same (old me .entries) y noEntry noEntry place
 
   entry-old : (c : ℕ) → c ≢ y → entryAt (new me) c ≡ entryAt (old me) c
   unfolding left
-  entry-old c e = rw here (passed-either (old me) y (λ (r : Room). entryAt r c ≡ entryAt (old me) c) same same)
+  entry-old c e = rw here (passed-either (old me) y (λ (r : Room). entryAt r c ≡ entryAt (old me) c) (λ e. same) (λ e. same))
     where
       same : entryAt (left (old me) y) c ≡ entryAt (old me) c
       same = getD-set-other (old me .entries) y c noEntry noEntry e
 
   -- what remains is owed to y, and nothing to others
   debt-new : debt (new me) y ≡ entryOf rest link
-  unfolding passedTo entryOf left
+  unfolding entryOf left
   debt-new =
       rw here
-      (by-test (λ (r : Room). debt r y ≡ entryOf rest link) (eqb rest 0) (left (old me) y) owing
-      (λ b. debt-none (left (old me) y) y (λ e. omega (arith, free)) ∙ sym (simp b))
-      (λ b. debt-here owing y refl ∙ sym (simp b)))
+      (passed-either (old me) y (λ (r : Room). debt r y ≡ entryOf rest link)
+      (λ z. debt-none (left (old me) y) y (λ e. omega (arith, free)) ∙ sym (simp (eq-eqb rest 0 z)))
+      (λ z. debt-here owing y refl ∙ sym (simp (ne-eqb rest 0 z))))
 
   debt-old : (p : ℕ) → p < n → debt (old me) p ≡ noEntry
   debt-old p l = debt-none (old me) p (λ e. omega (arith, free))
@@ -86,8 +86,8 @@ module _ (n : ℕ) (old new : ℕ → Room) (messages : List Wire) (me : ℕ) (o
   unfolding left
   debt-other p l e =
       rw here
-      (passed-either (old me) y (λ (r : Room). debt r p ≡ noEntry) (debt-none (left (old me) y) p (λ k. omega (arith, free)))
-      (debt-none owing p (λ k. e (sym k))))
+      (passed-either (old me) y (λ (r : Room). debt r p ≡ noEntry) (λ e. debt-none (left (old me) y) p (λ k. omega (arith, free)))
+      (λ z. debt-none owing p (λ k. e (sym k))))
 
   -- what y owed has ended
   pair-ended : flushed new (messages ++ (token ∷ [])) me y ≡ owed new (messages ++ (token ∷ [])) me y

@@ -109,7 +109,7 @@ module _ (n : ℕ) (old new : ℕ → Room) (messages : List Wire) (me : ℕ) (o
     unfolding isToken
     links-reduce l j e here =
         reduced-either (old me) a l j (λ (r : Room). new me ≡ r → Links n new (remove k messages))
-        (λ q. links-taken (rw e refl) (rw q refl) (rw q refl) (rw q refl)) (λ q. links-taken (rw e refl) (rw q refl) (rw q refl) (rw q refl)) here
+        (λ z. λ q. links-taken (rw e refl) (rw q refl) (rw q refl) (rw q refl)) (λ z. λ q. links-taken (rw e refl) (rw q refl) (rw q refl) (rw q refl)) here
 
     -- A room with one GRANT or TOKEN under way to it has no other.
     module _ (ungranted : (w : Wire) → Mem w (remove k messages) → w .to ≡ me → (x y : ℕ) → w .message ≡ msg.Grant x y → ⊥) where

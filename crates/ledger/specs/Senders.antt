@@ -167,10 +167,10 @@ module _ (old new : ℕ → Room) (messages : List Wire) (me y m : ℕ) (here : 
 
       toward-new : new me .toward ≡ y
       toward-new =
-          rw here (passed-either (old me) y (λ (r : Room). r .toward ≡ y) refl refl)
+          rw here (passed-either (old me) y (λ (r : Room). r .toward ≡ y) (λ e. refl) (λ e. refl))
 
       count : new me .counter ≡ nextLink (old me .counter)
-      count = rw here (passed-either (old me) y (λ (r : Room). r .counter ≡ nextLink (old me .counter)) refl refl)
+      count = rw here (passed-either (old me) y (λ (r : Room). r .counter ≡ nextLink (old me .counter)) (λ e. refl) (λ e. refl))
 
       asked : (w v : Wire) → Mem w all → Mem v all → (h rest l : ℕ) → w .message ≡ msg.Token h rest l → (o k : ℕ) (idle : Bool)
           → v .message ≡ msg.Request o k idle → o ≡ w .«from» → ⊥

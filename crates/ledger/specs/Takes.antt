@@ -1,22 +1,19 @@
 -- LEDGER is kept where a message is taken off its wire and does its work: both folds had it in them already.
 use mathlib.Core.Path.{_≡_, refl, sym, _∙_, ap}
 use mathlib.Core.Logic.{_≢_, _⊎_, inl, inr, ⊎-elim}
-use mathlib.Core.Bool.{Bool, false, _&&_}
+use mathlib.Core.Bool.{false}
 use mathlib.Core.List.{List}
 use Prim.Native.Nat.{ℕ, _≤_, _<_}
 use native.Mathlib.Omega.{arith}
-use lib.Dec.{eqb}
 use lib.ListN.{length, getD}
 use lib.Seq.{getD-set-same, getD-set-other}
-use Rattle.base.specs.Choice.{by-test}
 use Rattle.base.specs.Sums.{same?}
 use Rattle.base.specs.Lists.{remove}
 use Rattle.base.specs.Folds.{folds, folds-skip}
-use Rattle.modes.specs.Modes.{isStronger}
 use Rattle.room.specs.declared.Room.{Room}
 use Rattle.room.specs.declared.Entry.{Entry}
 use Rattle.room.specs.Limits.{roomLimit, nobody}
-use Rattle.room.specs.Record.{noEntry, entryOf, entryAt, withModes, withDebt, setEntry}
+use Rattle.room.specs.Record.{noEntry, entryOf, entryAt, withModes, withDebt}
 use Rattle.room.specs.Rules.{tokenedBy, reduced}
 use Rattle.table.specs.declared.Wire.{Wire}
 use Rattle.table.specs.declared.Message.{Message}
@@ -90,27 +87,23 @@ module _ (n : ℕ) (old new : ℕ → Room) (messages : List Wire) (me : ℕ) (o
   abbrev Taken : Type 0
   Taken = Ledger n new (remove k messages)
 
-  -- whether the entry for a is under link number l, and stronger than j
-  abbrev isOf : ℕ → ℕ → Bool
-  isOf l j = eqb (entryAt (old me) a .link) l && isStronger (entryAt (old me) a .mode) j
-
   -- "REDUCE: if b's entry for a has this link number and a stronger mode than the new one, it takes the new mode"
   pub ledger-reduce : (l j : ℕ) → m ≡ msg.Reduce l j → new me ≡ reduced (old me) a l j → a < length (old me .entries) → Taken
-  unfolding reduced flush owe debt
+  unfolding flush owe debt
   ledger-reduce l j e here place =
       taken
       (λ v q. rw (q, e, here) entry)
       (λ c f. rw here (reduced-either (old me) a l j (λ (r : Room). entryAt r c ≡ entryAt (old me) c)
-      (getD-set-other (old me .entries) a c (entryOf j l) noEntry f) refl))
-      (rw here (reduced-either (old me) a l j (λ (r : Room). folds (arriving owe a me) (debt r a) (remove k messages) ≡ owed old messages a me) keep keep))
-      (λ p lp f. rw here (reduced-either (old me) a l j (λ (r : Room). debt r p ≡ debt (old me) p) refl refl))
+      (λ e. getD-set-other (old me .entries) a c (entryOf j l) noEntry f) (λ e. refl)))
+      (rw here (reduced-either (old me) a l j (λ (r : Room). folds (arriving owe a me) (debt r a) (remove k messages) ≡ owed old messages a me) (λ e. keep) (λ e. keep)))
+      (λ p lp f. rw here (reduced-either (old me) a l j (λ (r : Room). debt r p ≡ debt (old me) p) (λ e. refl) (λ e. refl)))
     where
       keep : folds (arriving owe a me) (debt (old me) a) (remove k messages) ≡ owed old messages a me
       keep = gone-still messages k a me m o owe (λ v. rw e refl) a me (debt (old me) a)
 
       entry : flush (entryAt (old me) a) (msg.Reduce l j) ≡ entryAt (reduced (old me) a l j) a
       entry =
-          by-test (λ (r : Room). flush (entryAt (old me) a) (msg.Reduce l j) ≡ entryAt r a) (isOf l j) (setEntry (old me) a (entryOf j l)) (old me)
+          reduced-either (old me) a l j (λ (r : Room). flush (entryAt (old me) a) (msg.Reduce l j) ≡ entryAt r a)
           (λ b. simp b (sym (getD-set-same (old me .entries) a (entryOf j l) noEntry place))) (λ b. simp b)
 
   -- A room that owes nothing, or owes a alone, takes a GRANT or the TOKEN of a.

@@ -1,15 +1,14 @@
 -- How large the measure can be with heights below n: 2n² + 4n and the number of messages.
 use mathlib.Core.Path.{_≡_, refl, ap}
+use mathlib.Core.Logic.{⊎-elim}
 use mathlib.Core.Bool.{Bool, true, false}
 use mathlib.Core.List.{List, [], _∷_, List·Memᴰ·head, List·Memᴰ·tail}
 use Prim.Native.Nat.{ℕ, _+_, _*_, _-_, _≤_, _<_}
 use native.Mathlib.Nat.{mul-add, add-mul, mul-left-comm, mul-le-mul-right}
 use native.Mathlib.Omega.{arith}
-use lib.Dec.{eqb, ltb}
+use lib.Dec.{ltb}
 use lib.ListN.{length}
-use borrow.Author.Tests.{eqb-true}
-use Rattle.base.specs.Choice.{split}
-use Rattle.base.specs.Sums.{one, one-le, sum-le, sum-add, sum-bound, countBelow}
+use Rattle.base.specs.Sums.{same?, one, one-le, sum-le, sum-add, sum-bound, countBelow}
 use Rattle.base.specs.Lists.{total, count, Mem}
 use Rattle.room.specs.declared.Room.{Room}
 use Rattle.table.specs.declared.Wire.{Wire}
@@ -17,9 +16,10 @@ use Rattle.table.specs.declared.Queued.{Queued}
 use Rattle.table.specs.declared.Message.{Message}
 use Rattle.table.specs.declared.Message.the-variants as msg
 use Rattle.table.specs.Formed.{isToken, due, names}
+use Rattle.facts.specs.Due.{due-held}
 use Rattle.facts.specs.Moments.{Formed}
-use Rattle.facts.specs.Names.{isNaming, names-sum}
-use Rattle.bounds.specs.Bounds.{level, isRequest}
+use Rattle.facts.specs.Names.{isNaming, isRequest, names-sum}
+use Rattle.bounds.specs.Bounds.{level}
 use Rattle.bounds.specs.Weights.{requests, level-le}
 use Rattle.measure.specs.Measure.{pending, tokensIn, charge, follow, holdWeight, above, extra, pile, nothing, own, load, potential}
 
@@ -85,11 +85,11 @@ square n some = omega (
 
 -- a room that holds waits for nothing, but perhaps an upgrade
 idle-held : (r : Room) → one (ltb 0 (due r)) + one (ltb 0 (r .held)) ≤ 1
-unfolding due
 idle-held r =
-    split (eqb (r .held) 0)
-    (λ e. omega (arith, one-le (ltb 0 (due r)), ap (λ (h : ℕ). one (ltb 0 h)) (eqb-true (r .held) 0 e)))
-    (λ e. rw e (omega (arith, one-le (ltb 0 (r .held)))))
+    ⊎-elim
+    (λ e. omega (arith, one-le (ltb 0 (due r)), ap (λ (h : ℕ). one (ltb 0 h)) e))
+    (λ e. omega (arith, one-le (ltb 0 (r .held)), ap (λ (d : ℕ). one (ltb 0 d)) (due-held r e)))
+    (same? (r .held) 0)
 
 module _ (n : ℕ) (some : 1 ≤ n) (rooms : ℕ → Room) (queue : List Queued) (messages : List Wire) (f : Formed n rooms queue messages)
     (height : ℕ → ℕ) (below : (c : ℕ) → c < n → height c < n) where

@@ -26,7 +26,8 @@ use Rattle.table.specs.declared.Message.the-variants as msg
 use Rattle.table.specs.Formed.{isToken, tokens}
 use Rattle.facts.specs.Wires.{wire, leavingSent}
 use Rattle.ledger.specs.Takes.{Oldest}
-use Rattle.bounds.specs.Bounds.{level, isRequest}
+use Rattle.facts.specs.Names.{isRequest}
+use Rattle.bounds.specs.Bounds.{level}
 use Rattle.bounds.specs.Weights.{level-le, level-none, level-falls, requests-sent, requests-taken, requests-leaving}
 use Rattle.facts.specs.Cases.{passed-either, credited-either, reduced-either}
 use Rattle.measure.specs.Measure.{pending, tokensIn, charge, follow, holdWeight, nothing, own, load, potential}
@@ -106,7 +107,7 @@ module _ (n : ℕ) (old new : ℕ → Room) (messages : List Wire) (me : ℕ) (l
     rooms-differ,
     level-le (new me .credit),
     ap (λ (r : Room). one (ltb 0 (r .held))) here,
-    passed-either (old me) y (λ (r : Room). one (ltb 0 (r .held)) ≡ one (ltb 0 (old me .held))) refl refl,
+    passed-either (old me) y (λ (r : Room). one (ltb 0 (r .held)) ≡ one (ltb 0 (old me .held))) (λ e. refl) (λ e. refl),
   )
 
   -- the level that falls pays for the REDUCE
@@ -120,7 +121,7 @@ module _ (n : ℕ) (old new : ℕ → Room) (messages : List Wire) (me : ℕ) (l
     pile-sent height names flag nothing messages (wire me (old me .lender) (msg.Reduce (old me .link) (owned (old me)))),
     rooms-differ,
     ap own here,
-    credited-either (old me) (owned (old me)) (λ (r : Room). own r ≡ holdWeight * one (ltb 0 (old me .held)) + level (owned (old me))) refl refl,
+    credited-either (old me) (owned (old me)) (λ (r : Room). own r ≡ holdWeight * one (ltb 0 (old me .held)) + level (owned (old me))) (λ e. refl) (λ e. refl),
     level-falls (owned (old me)) (old me .credit) small (stronger-true (old me .credit) (owned (old me)) weaker),
   )
 
@@ -180,5 +181,5 @@ module _ (n : ℕ) (old new : ℕ → Room) (messages : List Wire) (me : ℕ) (l
     pile-taken height names flag messages nothing k a me (msg.Reduce l m) (oldest .low) (oldest .there) refl refl (oldest .first),
     rooms-differ,
     ap own here,
-    reduced-either (old me) a l m (λ (r : Room). own r ≡ own (old me)) refl refl,
+    reduced-either (old me) a l m (λ (r : Room). own r ≡ own (old me)) (λ e. refl) (λ e. refl),
   )

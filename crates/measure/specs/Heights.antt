@@ -101,8 +101,8 @@ module _ (n : ℕ) (old new : ℕ → Room) (messages : List Wire) (me : ℕ) (o
   leads-settle here =
       still (messages ++ (wire me (old me .lender) (msg.Reduce (old me .link) (owned (old me))) ∷ []))
       (λ c. omega (arith, passing-sent c messages me (old me .lender) (msg.Reduce (old me .link) (owned (old me)))))
-      (rw here (credited-either (old me) (owned (old me)) (λ (r : Room). r .token ≡ old me .token) refl refl))
-      (rw here (credited-either (old me) (owned (old me)) (λ (r : Room). r .toward ≡ old me .toward) refl refl))
+      (rw here (credited-either (old me) (owned (old me)) (λ (r : Room). r .token ≡ old me .token) (λ e. refl) (λ e. refl)))
+      (rw here (credited-either (old me) (owned (old me)) (λ (r : Room). r .toward ≡ old me .toward) (λ e. refl) (λ e. refl)))
 
   pub leads-grant : (k a m l : ℕ) → k < length messages → getD messages k noWire ≡ wire a me (msg.Grant m l)
       → new me ≡ withDebt (withModes (old me) m 0) a m l
@@ -158,5 +158,5 @@ module _ (n : ℕ) (old new : ℕ → Room) (messages : List Wire) (me : ℕ) (o
   unfolding isToken
   leads-reduce k a l m inside there here =
       still (remove k messages) (λ c. omega (arith, passing-taken c messages k a me (msg.Reduce l m) inside there))
-      (rw here (reduced-either (old me) a l m (λ (r : Room). r .token ≡ old me .token) refl refl))
-      (rw here (reduced-either (old me) a l m (λ (r : Room). r .toward ≡ old me .toward) refl refl))
+      (rw here (reduced-either (old me) a l m (λ (r : Room). r .token ≡ old me .token) (λ e. refl) (λ e. refl)))
+      (rw here (reduced-either (old me) a l m (λ (r : Room). r .toward ≡ old me .toward) (λ e. refl) (λ e. refl)))

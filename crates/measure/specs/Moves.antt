@@ -24,7 +24,7 @@ use Rattle.ledger.specs.Frames.{same-wire}
 use Rattle.ledger.specs.Links.{Sender}
 use Rattle.ledger.specs.Senders.{sender-taken}
 use Rattle.ledger.specs.Takes.{Oldest}
-use Rattle.bounds.specs.Bounds.{isRequest}
+use Rattle.facts.specs.Names.{isRequest}
 use Rattle.bounds.specs.Weights.{requests-sent, requests-taken}
 use Rattle.measure.specs.Way.{passing, Leads}
 use Rattle.measure.specs.Heights.{leads-request-taken}

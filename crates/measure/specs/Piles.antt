@@ -21,7 +21,7 @@ use Rattle.table.specs.Oldest.{between}
 use Rattle.table.specs.Formed.{isToken}
 use Rattle.facts.specs.Wires.{wire}
 use Rattle.ledger.specs.Frames.{receiver-is}
-use Rattle.bounds.specs.Bounds.{isRequest}
+use Rattle.facts.specs.Names.{isRequest}
 use Rattle.bounds.specs.Weights.{requests}
 use Rattle.measure.specs.Measure.{charge, follow, above, extra, pile}
 use Rattle.measure.specs.Behind.{follow-other, follow-token, follow-aside}

@@ -1,18 +1,15 @@
 -- WAY holds of the fresh table: room 0 has the token, and all look toward it.
-use mathlib.Core.Path.{_≡_, _∙_, ap}
+use mathlib.Core.Path.{_≡_, ap}
 use mathlib.Core.Logic.{_≢_, _⊎_, inl, inr}
-use mathlib.Core.Bool.{true}
 use mathlib.Core.List.{[]}
 use Prim.Native.Nat.{ℕ, _≤_, _<_}
 use native.Mathlib.Omega.{arith}
-use lib.ListN.{replicate, getD-replicate}
-use lib.Seq.{getD-set-other}
 use Rattle.base.specs.Tests.{clash}
 use Rattle.base.specs.Sums.{same?}
 use Rattle.room.specs.declared.Room.{Room}
 use Rattle.room.specs.Limits.{roomLimit}
-use Rattle.room.specs.Record.{noRoom, blankRoom, withToken}
 use Rattle.table.specs.Tables.{roomAt, freshTable}
+use Rattle.kept.specs.Fresh.{room-other}
 use Rattle.measure.specs.Way.{Leads}
 use Rattle.base.specs.Ranks.{rerooted, rerooted-here, rerooted-other}
 
@@ -24,9 +21,5 @@ leads-fresh n small c h t z = go (same? c 0)
     go : (c ≡ 0) ⊎ (c ≢ 0) → rerooted 0 (λ c. 0) (roomAt (freshTable n) c .toward) < rerooted 0 (λ c. 0) c
     go (inl e) = clash (ap (λ (x : ℕ). roomAt (freshTable n) x .token) e) t
     go (inr e) =
-        rw (ap (λ (r : Room). r .toward) blank) (omega (arith, rerooted-here 0 (λ c. 0), rerooted-other 0 (λ c. 0) c e))
-      where
-        blank : roomAt (freshTable n) c ≡ blankRoom
-        blank =
-            getD-set-other (replicate roomLimit blankRoom) 0 c (withToken blankRoom true 0) noRoom e
-            ∙ getD-replicate roomLimit c blankRoom noRoom (omega arith)
+        rw (ap (λ (r : Room). r .toward) (room-other n c (omega arith) e))
+        (omega (arith, rerooted-here 0 (λ c. 0), rerooted-other 0 (λ c. 0) c e))

@@ -24,10 +24,15 @@ pub blocked-not : {C : Type 0} (r : Room) (q : Queued) (rest : List Queued) → 
 unfolding Blocked
 blocked-not r q rest g b = clash g b
 
+-- and an empty queue has no head
+pub blocked-empty : (r : Room) → Blocked r [] → ⊥
+unfolding Blocked
+blocked-empty r b = b
+
 -- whoever joins the queue leaves its head
 pub blocked-join : (r : Room) (queue : List Queued) (q : Queued) → Blocked r queue → Blocked r (queue ++ (q ∷ []))
 unfolding Blocked
-blocked-join r [] q b = absurd b
+blocked-join r [] q b = absurd (blocked-empty r b)
 blocked-join r (p ∷ rest) q b = b
 
 -- a room that has to join the queue finds its head blocked, or is blocked itself

@@ -1,7 +1,7 @@
 -- How each change of a room's record changes its parts: one or two of them, or none.
 use mathlib.Core.Path.{_≡_, refl, sym, _∙_, ap}
 use mathlib.Core.Logic.{_≢_, _⊎_, inl, inr}
-use mathlib.Core.Bool.{true, _&&_}
+use mathlib.Core.Bool.{true}
 use Prim.Native.Nat.{ℕ, _≤_, _<_}
 use native.Mathlib.Omega.{arith}
 use lib.Dec.{eqb}
@@ -12,7 +12,6 @@ use Rattle.base.specs.Choice.{by-test}
 use Rattle.base.specs.Tests.{and-right}
 use Rattle.base.specs.Sums.{same?, below?}
 use Rattle.modes.specs.Codes.{none, IR}
-use Rattle.modes.specs.Modes.{isStronger}
 use Rattle.modes.specs.Under.{under}
 use Rattle.modes.proofs.Laws.{under-refl, none-under, IR-under, stronger-true}
 use Rattle.room.specs.declared.Room.{Room}
@@ -21,7 +20,7 @@ use Rattle.room.specs.Limits.{roomLimit}
 use Rattle.room.specs.Record.{noEntry, entryOf, entryAt, withModes, withDebt, setEntry}
 use Rattle.room.specs.Owned.{owned}
 use Rattle.room.specs.Rules.{nextLink, lentTo, left, remaining, passedTo, credited, tokenedBy, reduced}
-use Rattle.facts.specs.Cases.{passed-either, credited-either}
+use Rattle.facts.specs.Cases.{passed-either, credited-either, reduced-either}
 use Rattle.owning.specs.Parts.{part}
 use Rattle.owning.specs.Owned.{part-entry, part-held, part-owned, owned-any}
 
@@ -89,7 +88,7 @@ module _ (r : Room) where
 
   -- what is owed is no part
   pub credited-same : (m : ℕ) → Same r (credited r m)
-  credited-same m = credited-either r m (Same r) (same-parts r _ refl refl) (same-parts r _ refl refl)
+  credited-same m = credited-either r m (Same r) (λ e. same-parts r _ refl refl) (λ e. same-parts r _ refl refl)
 
 -- none and IR are under all that is stronger
 pub weak-under : (m o : ℕ) → m ≤ IR → m < o → under m o ≡ true
@@ -130,7 +129,7 @@ module _ (r : Room) (y : ℕ) (long : length (r .entries) ≡ roomLimit) (low : 
   passed-same : Same (setEntry r y noEntry) (passedTo r y)
   unfolding left
   passed-same =
-      passed-either r y (Same (setEntry r y noEntry)) (same-parts (setEntry r y noEntry) _ refl refl) (same-parts (setEntry r y noEntry) _ refl refl)
+      passed-either r y (Same (setEntry r y noEntry)) (λ e. same-parts (setEntry r y noEntry) _ refl refl) (λ e. same-parts (setEntry r y noEntry) _ refl refl)
 
   pub passed-alters : Alters r (passedTo r y) y none
   passed-alters =
@@ -146,9 +145,8 @@ module _ (r : Room) (y : ℕ) (long : length (r .entries) ≡ roomLimit) (low : 
 
   -- a REDUCE: the entry falls to the new mode, which is none or IR, or stays
   pub reduced-falls : (l m : ℕ) → m ≤ IR → Falls r (reduced r y l m)
-  unfolding reduced
   reduced-falls l m weak =
-      by-test (Falls r) (eqb (entryAt r y .link) l && isStronger (entryAt r y .mode) m) (setEntry r y (entryOf m l)) r
+      reduced-either r y l m (Falls r)
       (λ e. alters-falls r (setEntry r y (entryOf m l)) y m (entry-alters m l) (lower (stronger-true _ _ (and-right (eqb (entryAt r y .link) l) _ e))))
       (λ e. same-falls r r (λ i h. refl))
     where

@@ -4,10 +4,7 @@ use mathlib.Core.Logic.{_≢_, _⊎_, inl, inr}
 use mathlib.Core.Bool.{true, false}
 use Prim.Native.Nat.{ℕ, _≤_, _<_}
 use native.Mathlib.Omega.{arith}
-use lib.Dec.{eqb}
 use lib.ListN.{length}
-use borrow.Author.Tests.{eqb-true}
-use Rattle.base.specs.Choice.{by-test}
 use Rattle.base.specs.Tests.{clash}
 use Rattle.base.specs.Sums.{same?}
 use Rattle.modes.specs.Codes.{none, IR}
@@ -18,9 +15,9 @@ use Rattle.room.specs.declared.Room.{Room}
 use Rattle.room.specs.Limits.{roomLimit}
 use Rattle.room.specs.Record.{withModes, withDebt}
 use Rattle.room.specs.Owned.{owned}
-use Rattle.room.specs.Rules.{nextLink, lentTo, left, remaining, passedTo, credited, tokenedBy, reduced}
+use Rattle.room.specs.Rules.{lentTo, left, remaining, passedTo, credited, tokenedBy, reduced}
 use Rattle.facts.specs.Rooms.{RoomFacts}
-use Rattle.facts.specs.Cases.{credited-credit, reduced-credit}
+use Rattle.facts.specs.Cases.{passed-either, credited-credit, reduced-credit}
 use Rattle.owning.specs.Clauses.{Square, Exact, Agreeing}
 use Rattle.owning.specs.Owned.{part-held}
 use Rattle.owning.specs.Changes.{same-owned, modes-alters, wanted-same, granted-alters, credited-same, passed-owned}
@@ -114,15 +111,13 @@ module _ (n : ℕ) (old new : ℕ → Room) (me : ℕ) (low : me < n) (others : 
 
     -- "pass": credit is what remains, and that is what the room then owns
     pub exact-pass : (y : ℕ) → length (old me .entries) ≡ roomLimit → y < roomLimit → old me .credit ≡ none → new me ≡ passedTo (old me) y → Exact n new
-    unfolding passedTo left
+    unfolding left
     exact-pass y long near free here =
         room (λ f. ap (λ (r : Room). r .credit) here ∙ owes ∙ sym (ap owned here ∙ passed-owned (old me) y long near))
       where
         owes : passedTo (old me) y .credit ≡ remaining (old me) y
         owes =
-            by-test (λ (r : Room). r .credit ≡ remaining (old me) y) (eqb (remaining (old me) y) 0) (left (old me) y)
-            (withDebt (left (old me) y) y (remaining (old me) y) (nextLink (old me .counter)))
-            (λ e. free ∙ sym (eqb-true (remaining (old me) y) 0 e)) (λ e. refl)
+            passed-either (old me) y (λ (r : Room). r .credit ≡ remaining (old me) y) (λ e. free ∙ sym e) (λ e. refl)
 
     -- without the token what is owned falls, and settling is due
     module _ (facts : RoomFacts n me (old me)) (without : old me .token ≡ false) (agreeing : Agreeing (old me)) (entries : SmallEntries (old me)) where

@@ -46,11 +46,11 @@ waits-not r e =
 -- a pass gives the token away, and leaves held and wanted modes as they were
 passed-gone : (r : Room) (y : ℕ) → passedTo r y .token ≡ false
 unfolding left
-passed-gone r y = passed-either r y (λ (s : Room). s .token ≡ false) refl refl
+passed-gone r y = passed-either r y (λ (s : Room). s .token ≡ false) (λ e. refl) (λ e. refl)
 
 passed-waits : (r : Room) (y : ℕ) → upgradeWaits (passedTo r y) ≡ upgradeWaits r
 unfolding left upgradeWaits
-passed-waits r y = passed-either r y (λ (s : Room). upgradeWaits s ≡ upgradeWaits r) refl refl
+passed-waits r y = passed-either r y (λ (s : Room). upgradeWaits s ≡ upgradeWaits r) (λ e. refl) (λ e. refl)
 
 queue-ended : (queue : List Queued) (w : Work) → Ended (serveQueue w queue)
 unfolding serveQueue hold lend pass send lent passed Blocked

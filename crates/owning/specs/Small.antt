@@ -160,7 +160,7 @@ module _ (n : ℕ) (old new : ℕ → Room) (messages : List Wire) (me : ℕ) (l
     pub small-reduce : (k l m : ℕ) → k < length messages → getD messages k noWire ≡ wire y me (msg.Reduce l m) → new me ≡ reduced (old me) y l m
         → Small n new (remove k messages)
     small-reduce k l m place found here =
-        small-taken n new messages (small-room (rw here (reduced-either (old me) y l m SmallEntries lowered entries))) k
+        small-taken n new messages (small-room (rw here (reduced-either (old me) y l m SmallEntries (λ e. lowered) (λ e. entries)))) k
       where
         weak : m ≤ R
         weak = omega (arith, s .new (getD messages k noWire) (mem-at messages k noWire place) l m (rw found refl))

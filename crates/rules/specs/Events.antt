@@ -2,6 +2,7 @@
 use Prim.Native.Nat.{ℕ}
 use mathlib.Core.Bool.{Bool}
 use lib.Dec.{eqb}
+use Rattle.modes.specs.Codes.{none}
 use Rattle.rules.specs.declared.Event.{Event}
 
 -- the kinds
@@ -29,3 +30,16 @@ isHandBack e = eqb (e .kind) HANDBACK
 
 abbrev pub isDeliver : Event → Bool
 isDeliver e = eqb (e .kind) DELIVER
+
+-- an event of each kind
+abbrev pub asks : ℕ → ℕ → Event
+asks x m = record { kind = ASK; room = x; other = 0; mode = m }
+
+abbrev pub upgrades : ℕ → Event
+upgrades x = record { kind = UPGRADE; room = x; other = 0; mode = none }
+
+abbrev pub handsBack : ℕ → Event
+handsBack x = record { kind = HANDBACK; room = x; other = 0; mode = none }
+
+abbrev pub delivers : ℕ → ℕ → Event
+delivers a b = record { kind = DELIVER; room = a; other = b; mode = none }

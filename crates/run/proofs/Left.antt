@@ -5,38 +5,24 @@ use mathlib.Core.List.{List, [], _∷_}
 use Prim.Native.Nat.{_*_, _≤_}
 use native.Mathlib.Omega.{arith}
 use native.Mathlib.Nat.{mul-le-mul}
-use borrow.Author.Tests.{leb-true, not-true, not-false}
+use borrow.Author.Tests.{leb-true, ne-eqb, not-true, not-false}
 use Rattle.base.specs.Choice.{if_then_else_}
 use Rattle.base.specs.Tests.{and-left, and-right}
 use Rattle.table.specs.declared.Table.{Table}
-use Rattle.table.specs.Tables.{answer}
-use Rattle.table.specs.Numbers.{TABLE}
 use Rattle.table.specs.Formed.{sizesFit, wellFormed}
 use Rattle.rules.specs.declared.Event.{Event}
-use Rattle.rules.specs.Refusals.{first, refusalAs, refusal}
-use Rattle.rules.specs.Step.{stepOf}
+use Rattle.facts.specs.Accepted.{ill-formed-refused}
 use Rattle.facts.specs.Whole.{rooms-low}
-use Rattle.drain.specs.Drains.{isDraining, drainedBy, isMade, steps, bound}
+use Rattle.drain.specs.Drains.{isDraining, isMade, steps, bound}
+use Rattle.drain.specs.Ends.{unmade-stays}
 use Rattle.drain.specs.Always.{drains}
 use Rattle.run.specs.Drains.{leftOf, IsLeft}
 
 -- on a table that is not well formed each event is refused, so none is a step
-refused-is : (t : Table) (e : Event) → wellFormed t ≡ false → stepOf t e ≡ answer TABLE t
-unfolding stepOf refusal refusalAs first
-refused-is t e h = rw h refl
-
 module _ (t : Table) (h : wellFormed t ≡ false) where
-  refused-drained : (e : Event) → drainedBy t e ≡ t
-  unfolding drainedBy
-  refused-drained e = rw (refused-is t e h) (go (isDraining e))
-    where
-      go : (b : Bool) → (if b then t else t) ≡ t
-      go true = refl
-      go false = refl
-
   refused-made : (e : Event) → isMade t e ≡ false
   unfolding isMade
-  refused-made e = rw (refused-is t e h) (go (isDraining e))
+  refused-made e = rw (ne-eqb _ _ (ill-formed-refused t e h)) (go (isDraining e))
     where
       go : (b : Bool) → (if b then false else false) ≡ false
       go true = refl
@@ -45,7 +31,7 @@ module _ (t : Table) (h : wellFormed t ≡ false) where
   never-steps : (events : List Event) → steps t events ≡ 0
   unfolding steps
   never-steps [] = refl
-  never-steps (e ∷ es) = rw (refused-made e, refused-drained e) (omega (arith, never-steps es))
+  never-steps (e ∷ es) = rw (refused-made e, unmade-stays t e (refused-made e)) (omega (arith, never-steps es))
 
 -- the sizes of a table that passes the test
 pub record Sizes (t : Table) : Type 0 where

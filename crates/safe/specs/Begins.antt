@@ -17,7 +17,7 @@ use Rattle.facts.specs.Tokens.{holder-alone}
 use Rattle.kept.specs.Changed.{changed, changed-same, changed-elsewhere}
 use Rattle.kept.specs.Moment.{empty}
 use Rattle.kept.specs.Acts.{Whole, now}
-use Rattle.kept.specs.Asks.{due-none}
+use Rattle.facts.specs.Due.{due-none}
 use Rattle.owning.specs.Clauses.{Exact, Agreeing, Pairs, Light, Served}
 use Rattle.owning.specs.Messages.{Unnamed, unnamed-of}
 use Rattle.owning.specs.Weaker.{Weaker, want-weaker}

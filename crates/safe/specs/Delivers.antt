@@ -12,8 +12,6 @@ use Rattle.base.specs.Lists.{Mem, remove, mem-at}
 use Rattle.modes.specs.Codes.{IR}
 use Rattle.modes.specs.Under.{under}
 use Rattle.room.specs.declared.Room.{Room}
-use Rattle.room.specs.declared.Send.{Send}
-use Rattle.room.specs.declared.Send.the-variants as out
 use Rattle.room.specs.Record.{withModes, withDebt, setEntry, entryOf}
 use Rattle.room.specs.Owned.{owned}
 use Rattle.room.specs.Rules.{leaving, granted, tokened, tokenedBy, reduced}
@@ -23,11 +21,11 @@ use Rattle.table.specs.declared.Message.{Message}
 use Rattle.table.specs.declared.Message.the-variants as msg
 use Rattle.table.specs.Tables.{noWire}
 use Rattle.table.specs.Formed.{isToken, isNamedIn}
-use Rattle.rules.specs.Work.{Work, withRoom, send, sendOut, change}
+use Rattle.rules.specs.Work.{Work, withRoom, sendOut, change}
 use Rattle.rules.specs.Rules.{settle, serve, settleOrServe, receive}
 use Rattle.facts.specs.Messages.{GrantFacts, proper}
 use Rattle.facts.specs.Tokens.{gone-quiet}
-use Rattle.facts.specs.Wires.{wire, sentBy, leavingSent}
+use Rattle.facts.specs.Wires.{wire, leavingSent, sent-out}
 use Rattle.facts.specs.Cases.{reduced-either}
 use Rattle.kept.specs.Changed.{changed, changed-same, changed-elsewhere}
 use Rattle.kept.specs.Moment.{Right, empty}
@@ -53,12 +51,8 @@ sending me room queue sent = record { me = me; room = room; queue = queue; sent 
 
 pub left-work : (me : ℕ) (room r : Room) (queue : List Queued) (a : ℕ)
     → sendOut (taking me room queue) (leaving r a) ≡ sending me room queue (leavingSent me r a)
-unfolding sendOut send leavingSent
-left-work me room r queue a = go (leaving r a)
-  where
-    go : (s : Send) → sendOut (taking me room queue) s ≡ sending me room queue (sentBy me s)
-    go out.Nothing = refl
-    go (out.Reduce y l m) = refl
+unfolding leavingSent
+left-work me room r queue a = sent-out (taking me room queue) (leaving r a)
 
 module _ (n : ℕ) (rooms : ℕ → Room) (messages : List Wire) (me : ℕ) (room : Room) (queue : List Queued)
     (inv : Invariant n (now rooms (taking me room queue)) queue messages) (k a : ℕ) where
@@ -176,7 +170,7 @@ module _ (n : ℕ) (rooms : ℕ → Room) (messages : List Wire) (me : ℕ) (roo
 
     -- what a REDUCE leaves alone
     same : {A : Type 0} (f : Room → A) → f (setEntry room a (entryOf m l)) ≡ f room → f room ≡ f room → f (new lowered me) ≡ f (old me)
-    same f p q = ap f (here lowered) ∙ reduced-either room a l m (λ (r : Room). f r ≡ f room) p q ∙ sym (ap f at-me)
+    same f p q = ap f (here lowered) ∙ reduced-either room a l m (λ (r : Room). f r ≡ f room) (λ e. p) (λ e. q) ∙ sym (ap f at-me)
 
     before : lowered .token ≡ false → old me .token ≡ false
     before without = sym (same (λ r. r .token) refl refl) ∙ ap (λ (r : Room). r .token) (here lowered) ∙ without

@@ -1,19 +1,17 @@
 -- HANDBACK keeps the invariant.
-use mathlib.Core.Path.{_≡_, refl}
+use mathlib.Core.Path.{_≡_}
 use mathlib.Core.Logic.{_≢_}
 use mathlib.Core.Bool.{false}
 use mathlib.Core.List.{List, _++_}
 use Prim.Native.Nat.{ℕ}
-use native.Mathlib.Omega.{arith}
 use Rattle.base.specs.Choice.{by-test}
 use Rattle.room.specs.declared.Room.{Room}
 use Rattle.room.specs.Record.{withModes}
 use Rattle.table.specs.declared.Wire.{Wire}
-use Rattle.table.specs.Formed.{due}
 use Rattle.rules.specs.Work.{Work}
 use Rattle.rules.specs.Rules.{hold, settle, serve, settleOrServe, handBack}
 use Rattle.kept.specs.Acts.{Whole, now}
-use Rattle.kept.specs.Asks.{hold-kept}
+use Rattle.kept.specs.Asks.{handed-kept}
 use Rattle.owning.specs.PairsKept.{pairs-hand-back}
 use Rattle.owning.specs.Weaker.{Weaker, hand-back-weaker}
 use Rattle.owning.specs.Exact.{but-hand-back}
@@ -37,8 +35,7 @@ module _ (n : ℕ) (rooms : ℕ → Room) (kept : List Wire) (w : Work) (a : Don
   me = w .me
 
   whole : Whole n rooms kept (hold w 0)
-  unfolding due
-  whole = hold-kept n rooms kept w (a .whole) idle 0 (omega arith) refl (λ u. absurd (omega arith)) (λ u. absurd (omega arith))
+  whole = handed-kept n rooms kept w (a .whole) idle
 
   abbrev handed : ℕ → Room
   handed = holding n rooms kept w a 0

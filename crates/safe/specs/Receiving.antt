@@ -132,4 +132,4 @@ module _ (n : ℕ) (old new : ℕ → Room) (queue : List Queued) (messages : Li
     where
       -- what a REDUCE leaves alone
       same : {A : Type 0} (f : Room → A) → f (setEntry (old me) a (entryOf m l)) ≡ f (old me) → f (old me) ≡ f (old me) → f (new me) ≡ f (old me)
-      same f x y = ap f here ∙ reduced-either (old me) a l m (λ (r : Room). f r ≡ f (old me)) x y
+      same f x y = ap f here ∙ reduced-either (old me) a l m (λ (r : Room). f r ≡ f (old me)) (λ e. x) (λ e. y)

@@ -9,7 +9,7 @@ use lib.Dec.{eqb}
 use borrow.Author.Tests.{eqb-true, eqb-false, not-false}
 use Rattle.base.specs.Choice.{by-test}
 use Rattle.base.specs.Tests.{and-left, and-right}
-use Rattle.modes.specs.Codes.{U, W}
+use Rattle.modes.specs.Codes.{W}
 use Rattle.modes.specs.Modes.{agrees, canLend}
 use Rattle.room.specs.declared.Room.{Room}
 use Rattle.room.specs.Record.{withModes}
@@ -17,9 +17,9 @@ use Rattle.room.specs.Owned.{owned, hasNoEntries}
 use Rattle.room.specs.Rules.{lent, lentTo}
 use Rattle.table.specs.declared.Wire.{Wire}
 use Rattle.table.specs.declared.Queued.{Queued}
-use Rattle.table.specs.Formed.{due}
 use Rattle.rules.specs.Work.{Work, withQueue, send}
 use Rattle.rules.specs.Rules.{hold, lend, pass, upgradeWaits, upgraded, serveQueue, serve}
+use Rattle.facts.specs.Due.{upgrade-due}
 use Rattle.facts.specs.Tokens.{holder-alone}
 use Rattle.kept.specs.Changed.{changed, changed-same, changed-other, changed-elsewhere}
 use Rattle.kept.specs.Moment.{empty}
@@ -57,11 +57,6 @@ unfolding serve upgraded hold
 serve-me w =
     queue-me (w .queue) (w .me) (upgraded w)
     (by-test (λ (v : Work). v .me ≡ w .me) (upgradeWaits (w .room) && hasNoEntries (w .room)) (hold w W) w (λ e. refl) (λ e. refl)) .is
-
--- a room that waits for an upgrade is due nothing
-upgrade-due : (r : Room) → upgradeWaits r ≡ true → due r ≡ 0
-unfolding upgradeWaits due
-upgrade-due r e = rw (eqb-true (r .held) U (and-left (eqb (r .held) U) _ e)) refl
 
 module _ (n : ℕ) (rooms : ℕ → Room) (kept : List Wire) where
   -- a work that has its queue in it

@@ -4,19 +4,17 @@ use mathlib.Core.Logic.{_≢_}
 use mathlib.Core.Bool.{true, false}
 use mathlib.Core.List.{List, [], _∷_, _++_, append-assoc}
 use Prim.Native.Nat.{ℕ}
-use Rattle.base.specs.Choice.{by-test}
 use Rattle.modes.specs.Modes.{isStronger}
 use Rattle.room.specs.declared.Room.{Room}
 use Rattle.room.specs.declared.Changed.{Changed}
-use Rattle.room.specs.declared.Send.the-variants as out
 use Rattle.room.specs.Owned.{owned}
-use Rattle.room.specs.Rules.{credited, settled}
+use Rattle.room.specs.Rules.{credited}
 use Rattle.table.specs.declared.Wire.{Wire}
 use Rattle.table.specs.declared.Message.the-variants as msg
 use Rattle.rules.specs.Work.{Work, withRoom, send, sendOut, change}
 use Rattle.rules.specs.Rules.{settle}
 use Rattle.facts.specs.Wires.{wire}
-use Rattle.facts.specs.Cases.{credited-either}
+use Rattle.facts.specs.Cases.{credited-either, settled-either}
 use Rattle.kept.specs.Changed.{changed, changed-same, changed-elsewhere}
 use Rattle.kept.specs.Acts.{Whole, now}
 use Rattle.kept.specs.Settle.{settle-kept}
@@ -80,11 +78,11 @@ module _ (n : ℕ) (rooms : ℕ → Room) (kept : List Wire) (w : Work) (a : Owi
               exact = exact-settle n old new me (a .whole .low) others (a .exact) now-paid;
               light =
                   light-weaker n old new (w .queue) me (a .whole .low) others (a .light) (ap (λ (r : Room). r .token) at-me ∙ without)
-                  (ap (λ (r : Room). r .wanted) here ∙ credited-either (w .room) own (λ (r : Room). r .wanted ≡ w .room .wanted) refl refl ∙ sym (ap (λ (r : Room). r .wanted) at-me))
+                  (ap (λ (r : Room). r .wanted) here ∙ credited-either (w .room) own (λ (r : Room). r .wanted ≡ w .room .wanted) (λ e. refl) (λ e. refl) ∙ sym (ap (λ (r : Room). r .wanted) at-me))
                   (rw (at-me, here) (credited-weaker (w .room) (rw at-me at (a .clauses .pairs .room me (a .whole .low))) own));
               served =
                   served-other n old new (w .queue) me others
-                  (ap (λ (r : Room). r .token) here ∙ credited-either (w .room) own (λ (r : Room). r .token ≡ false) without without) (a .served);
+                  (ap (λ (r : Room). r .token) here ∙ credited-either (w .room) own (λ (r : Room). r .token ≡ false) (λ e. without) (λ e. without)) (a .served);
             };
         unworn = a .unworn;
       }
@@ -115,8 +113,7 @@ module _ (n : ℕ) (rooms : ℕ → Room) (kept : List Wire) (w : Work) (a : Owi
       }
 
   pub settling : Done n rooms kept (settle w)
-  unfolding settle settled sendOut
+  unfolding settle sendOut
   settling =
-      by-test (λ (c : Changed). Whole n rooms kept (change w c) → Done n rooms kept (change w c)) (isStronger (w .room .credit) own)
-      (record { room = paid; send = out.Reduce (w .room .lender) (w .room .link) own }) (record { room = w .room; send = out.Nothing })
+      settled-either (w .room) (λ (c : Changed). Whole n rooms kept (change w c) → Done n rooms kept (change w c))
       paying (λ e whole. resting e) (settle-kept n rooms kept w (a .whole) without)

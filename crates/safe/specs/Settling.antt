@@ -77,7 +77,7 @@ module _ (n : ℕ) (old new : ℕ → Room) (queue : List Queued) (messages : Li
     -- what settling leaves alone
     same : {A : Type 0} (f : Room → A) → f (withDebt (old me) nobody own 0) ≡ f (old me) → f (withDebt (old me) (old me .lender) own (old me .link)) ≡ f (old me)
         → f (new me) ≡ f (old me)
-    same f p q = ap f here ∙ credited-either (old me) own (λ (r : Room). f r ≡ f (old me)) p q
+    same f p q = ap f here ∙ credited-either (old me) own (λ (r : Room). f r ≡ f (old me)) (λ e. p) (λ e. q)
 
     pub clauses-settle : Clauses n new queue (messages ++ (reduce ∷ [])) hand
     unfolding isToken

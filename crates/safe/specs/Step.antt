@@ -30,11 +30,12 @@ use Rattle.rules.specs.Step.{after, outcome, delivered, made, stepOf, runs}
 use Rattle.facts.specs.Shapes.{Shaped}
 use Rattle.facts.specs.Whole.{WellFormed, facts-of}
 use Rattle.facts.specs.Search.{oldest-low, oldest-there, oldest-first}
-use Rattle.facts.specs.Accepted.{Accepted, accepted, kind-idle}
+use Rattle.facts.specs.Accepted.{Accepted, accepted, kind-idle, unrefused}
 use Rattle.kept.specs.Moment.{NoOwnRequest}
 use Rattle.kept.specs.Acts.{now}
 use Rattle.kept.specs.After.{Lawful, rooms-are, queue-is, messages-are, after-lawful}
 use Rattle.kept.specs.Start.{same-rooms, start, take-oldest}
+use Rattle.kept.specs.Kept.{refused-stays}
 use Rattle.bounds.specs.Limits.{messages-fit}
 use Rattle.safe.specs.Invariant.{Invariant}
 use Rattle.safe.specs.Done.{Done}
@@ -55,8 +56,7 @@ Goes n r = (r .«number» ≡ DONE) × Safe n (r .table)
 
 -- a refusal leaves the table
 pub step-refused : (t : Table) (e : Event) → eqb (refusal t e) 0 ≡ false → stepOf t e .table ≡ t
-unfolding stepOf
-step-refused t e b = rw b refl
+step-refused t e b = refused-stays t e (λ done. eqb-false _ _ b (unrefused t e done))
 
 module _ (n : ℕ) (t : Table) (s : Safe n t) where
   pub shaped : Shaped t

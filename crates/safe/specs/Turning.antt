@@ -5,10 +5,8 @@ use mathlib.Core.Bool.{true, false}
 use mathlib.Core.List.{List, [], _∷_, _++_, append-assoc, List·Memᴰ·head}
 use Prim.Native.Nat.{ℕ, _≤_, _<_}
 use native.Mathlib.Omega.{arith}
-use lib.Dec.{eqb}
 use lib.ListN.{length}
-use borrow.Author.Tests.{eq-eqb, eqb-true}
-use Rattle.base.specs.Choice.{split}
+use borrow.Author.Tests.{eq-eqb}
 use Rattle.base.specs.Sums.{one}
 use Rattle.base.specs.Lists.{Mem}
 use Rattle.modes.specs.Modes.{agrees, canLend}
@@ -22,11 +20,12 @@ use Rattle.room.specs.Rules.{nextLink, isWorn, lent, lentTo, left, passed, pass
 use Rattle.table.specs.declared.Wire.{Wire}
 use Rattle.table.specs.declared.Queued.{Queued}
 use Rattle.table.specs.declared.Message.the-variants as msg
-use Rattle.table.specs.Formed.{due, isToken}
+use Rattle.table.specs.Formed.{isToken}
 use Rattle.rules.specs.Work.{Work, withQueue, send}
 use Rattle.rules.specs.Rules.{hold, lend, pass}
 use Rattle.facts.specs.Moments.{QueuedFacts}
 use Rattle.facts.specs.Wires.{wire}
+use Rattle.facts.specs.Due.{due-wants}
 use Rattle.facts.specs.Cases.{passed-either}
 use Rattle.facts.specs.Tokens.{holder-alone, holder-quiet}
 use Rattle.kept.specs.Changed.{changed, changed-same, changed-elsewhere}
@@ -53,18 +52,10 @@ use Rattle.safe.specs.Passing.{clauses-pass}
 use Rattle.safe.specs.Settling.{clauses-modes}
 use Rattle.safe.specs.Requesting.{clauses-headed, clauses-dropped}
 
--- a room that waits for a mode wants it, and holds nothing
-pub due-wants : (r : Room) (m : ℕ) → due r ≡ m → 1 ≤ m → (r .wanted ≡ m) × (r .held ≡ 0)
-unfolding due
-due-wants r m e h = split (eqb (r .held) 0) (λ b. (rw b at e, eqb-true _ _ b)) (λ b. absurd (none (rw b at e)))
-  where
-    none : 0 ≡ m → ⊥
-    none z = omega arith
-
 -- a pass leaves what is wanted
 passed-wants : (r : Room) (y : ℕ) → passedTo r y .wanted ≡ r .wanted
 unfolding left
-passed-wants r y = passed-either r y (λ (s : Room). s .wanted ≡ r .wanted) refl refl
+passed-wants r y = passed-either r y (λ (s : Room). s .wanted ≡ r .wanted) (λ e. refl) (λ e. refl)
 
 -- Inside serve: the room that acts has the token, and no clause but SERVED is open. The queue is what is still to be served.
 pub record Serving (n : ℕ) (rooms : ℕ → Room) (kept : List Wire) (w : Work) (queue : List Queued) : Type 0 where

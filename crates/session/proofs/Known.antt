@@ -16,10 +16,10 @@ use Rattle.table.specs.Numbers.{DONE, ROOM, TABLE, EVENT}
 use Rattle.table.specs.Tables.{answer, freshTable, blankTable, freshOf}
 use Rattle.table.specs.Formed.{sizesFit, wellFormed}
 use Rattle.rules.specs.declared.Event.{Event}
-use Rattle.rules.specs.Refusals.{first, refusalAs, refusal}
 use Rattle.rules.specs.Step.{stepOf}
+use Rattle.facts.specs.Accepted.{ill-formed-refused}
 use Rattle.kept.specs.Fresh.{fresh-has}
-use Rattle.kept.specs.Kept.{step-lawful}
+use Rattle.kept.specs.Kept.{refused-stays, step-lawful}
 use Rattle.reading.specs.declared.Command.{Command}
 use Rattle.reading.specs.declared.Command.the-variants as command
 use Rattle.reading.specs.Lines.{commandOf}
@@ -41,11 +41,6 @@ fresh-known n a e =
     (λ h. record { lawful = λ z. fresh-has n (leb-true 1 n (and-left (leb 1 n) _ h)) (leb-true n roomLimit (and-right (leb 1 n) _ h)) })
     (λ h. record { lawful = λ z. absurd (z refl) }))
 
--- a step on a table that is not well formed leaves it
-refused : (t : Table) (e : Event) → wellFormed t ≡ false → stepOf t e .table ≡ t
-unfolding stepOf refusal refusalAs first
-refused t e h = simp h
-
 module _ (t : Table) (k : Known t) where
   -- with rooms it is well formed, and without rooms no table is
   pub known-formed : (b : Bool) → b ≡ not (eqb (t .n) 0) → b ≡ wellFormed t
@@ -59,7 +54,7 @@ module _ (t : Table) (k : Known t) where
   step-known : (e : Event) → Gives (stepOf t e)
   step-known e =
       split (eqb (t .n) 0)
-      (λ z. subst⁻¹ Known (refused t e (sym (known-formed false (rw z refl)))) k)
+      (λ z. subst⁻¹ Known (refused-stays t e (ill-formed-refused t e (sym (known-formed false (rw z refl))))) k)
       (λ z. record { lawful = λ some. step-lawful t e (k .lawful (eqb-false (t .n) 0 z)) })
 
   begun-known : (a : Answer) → Gives a → Gives (begun t a)

@@ -41,7 +41,8 @@ use Rattle.ledger.specs.Senders.{sender-none}
 use Rattle.owning.specs.Parts.{part}
 use Rattle.owning.specs.Clauses.{Small, Pairs}
 use Rattle.tree.specs.Tree.{isGrant, Tree}
-use Rattle.bounds.specs.Bounds.{level, weight, isRequest}
+use Rattle.facts.specs.Names.{isRequest}
+use Rattle.bounds.specs.Bounds.{level, weight}
 use Rattle.safe.specs.Invariant.{Clauses}
 use Rattle.safe.specs.Step.{Safe}
 

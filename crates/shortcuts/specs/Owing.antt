@@ -28,7 +28,7 @@ use Rattle.facts.specs.Wires.{wire}
 use Rattle.tree.specs.Tree.{isGrant, Tree}
 use Rattle.safe.specs.Reached.{Demand3}
 use Rattle.safe.specs.Step.{Safe, step-safe}
-use Rattle.twelve.specs.Twelve.{asks, delivers}
+use Rattle.rules.specs.Events.{asks, delivers}
 use Rattle.variants.specs.Step.{deliveredBy, madeBy, stepBy, runsBy}
 use Rattle.shortcuts.specs.Choices.{right, lentToAnyone}
 use Rattle.shortcuts.specs.Rules.{reducedBy, serveQueueBy, serveBy, settleOrServeBy, askBy, takeRequestBy, receiveBy, rulesBy}

@@ -2,7 +2,7 @@
 use mathlib.Core.List.{List, [], _∷_}
 use Rattle.modes.specs.Codes.{IR, R, U, W}
 use Rattle.rules.specs.declared.Event.{Event}
-use Rattle.twelve.specs.Twelve.{asks, upgrades, handsBack, delivers}
+use Rattle.rules.specs.Events.{asks, upgrades, handsBack, delivers}
 
 -- room 1's hand-back of its first loan arrives at room 2 after room 2 has lent to room 1 anew
 unfoldable pub spring : List Event

@@ -22,7 +22,7 @@ use Rattle.rules.specs.Rules.{hold, want, lend, pass, settle, upgradeWaits, upg
 use Rattle.rules.specs.Refusals.{first, isFound, anyWorn, refusalAs}
 use Rattle.rules.specs.Step.{after, outcome}
 use Rattle.drain.specs.Drains.{bound}
-use Rattle.twelve.specs.Twelve.{asks, delivers}
+use Rattle.rules.specs.Events.{asks, delivers}
 use Rattle.variants.specs.Step.{Rules, deliveredBy, madeBy, stepBy, runsBy}
 use Rattle.stalls.specs.Habits.{circling, settleOrServeBy, handBackBy, takeRequestBy, receiveBy, rulesBy}
 

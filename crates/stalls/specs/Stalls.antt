@@ -16,7 +16,7 @@ use Rattle.rules.specs.Work.{send, join, sendOut}
 use Rattle.rules.specs.Rules.{hold, want, lend, pass, settle, upgradeWaits, upgraded, serveQueue, serve, isEmpty, askWith, askWithout, ask, upgrade}
 use Rattle.rules.specs.Refusals.{first, isFound, anyWorn, refusalAs}
 use Rattle.rules.specs.Step.{after, outcome}
-use Rattle.twelve.specs.Twelve.{asks, delivers}
+use Rattle.rules.specs.Events.{asks, delivers}
 use Rattle.variants.specs.Step.{deliveredBy, madeBy, stepBy, runsBy}
 use Rattle.variants.specs.Rests.{Rests, isStill, rests}
 use Rattle.stalls.specs.Habits.{Habits, right, neverServing, forgetting, settleOrServeBy, handBackBy, takeRequestBy, receiveBy, rulesBy}

@@ -15,14 +15,13 @@ use Rattle.table.specs.declared.Found.the-variants as found
 use Rattle.table.specs.Limits.{queueLimit}
 use Rattle.table.specs.Tables.{noWire, roomAt, queueOf, messagesOf}
 use Rattle.table.specs.Oldest.{oldestOf}
-use Rattle.table.specs.Formed.{due, isNamedIn, names, messageFine, wellFormed}
+use Rattle.table.specs.Formed.{isNamedIn, names, wellFormed}
 use Rattle.facts.specs.Shapes.{Shaped}
 use Rattle.facts.specs.Whole.{WellFormed, facts-of}
-use Rattle.facts.specs.Names.{queue-bound, queue-room, named-once}
+use Rattle.facts.specs.Due.{due-none}
+use Rattle.facts.specs.Messages.{proper}
+use Rattle.facts.specs.Names.{isRequest, queue-bound, queue-room, named-once}
 use Rattle.facts.specs.Search.{oldest-low, oldest-there}
-use Rattle.base.specs.Tests.{and-left}
-use borrow.Author.Tests.{ltb-true}
-use Rattle.step.proofs.Queues.{isRequest}
 
 module _ (t : Table) (s : Shaped t) (h : wellFormed t ≡ true) where
   facts : WellFormed t
@@ -42,11 +41,10 @@ module _ (t : Table) (s : Shaped t) (h : wellFormed t ≡ true) where
   queue-fits = omega (arith, queue-bound (t .n) (roomAt t) (queueOf t) (messagesOf t) (facts .formed), facts .low)
 
   -- a room that wants nothing is named nowhere
-  pub asks-place : (x : ℕ) → x < t .n → roomAt t x .wanted ≡ 0 → roomAt t x .held ≡ 0 → length (queueOf t) < queueLimit
-  unfolding due in-queue
-  asks-place x low w z =
-      let none : due (roomAt t x) ≡ 0 = simp (eq-eqb _ _ z) w in
-      let named : names (queueOf t) (messagesOf t) x ≡ 0 = facts .formed .named x low ∙ ap (λ (k : ℕ). one (ltb 0 k)) none in
+  pub asks-place : (x : ℕ) → x < t .n → roomAt t x .wanted ≡ 0 → length (queueOf t) < queueLimit
+  unfolding in-queue
+  asks-place x low w =
+      let named : names (queueOf t) (messagesOf t) x ≡ 0 = facts .formed .named x low ∙ ap (λ (k : ℕ). one (ltb 0 k)) (due-none (roomAt t x) w) in
       omega (
         arith,
         queue-room (t .n) (roomAt t) (queueOf t) (messagesOf t) (facts .formed) x low (omega (arith, both x, named)),
@@ -55,12 +53,12 @@ module _ (t : Table) (s : Shaped t) (h : wellFormed t ≡ true) where
 
   -- the origin of a REQUEST is named by it, and by nothing else
   pub request-place : (a b k o m : ℕ) (idle : Bool) → oldestOf t a b ≡ found.At k (msg.Request o m idle) → length (queueOf t) < queueLimit
-  unfolding isNamedIn in-queue on-wires messageFine
+  unfolding isNamedIn in-queue on-wires
   request-place a b k o m idle e =
       let low = oldest-low t a b k (msg.Request o m idle) e in
       let there = oldest-there t a b k (msg.Request o m idle) e in
       let member : Mem (record { «from» = a; to = b; message = msg.Request o m idle }) (messagesOf t) = rw there at (mem-at (messagesOf t) k noWire low) in
-      let origin : o < t .n = ltb-true o (t .n) (and-left (ltb o (t .n)) _ (facts .formed .message _ member .fine)) in
+      let origin : o < t .n = proper (facts .formed .message _ member) .low in
       let named : 1 ≤ on-wires o = rw (eq-eqb o o refl) at (mem-total (λ w. one (isNamedIn o (w .to) (w .message))) member) in
       omega (
         arith,

@@ -122,7 +122,7 @@ module _ (t : Table) (s : Shaped t) (e : Event) where
     doing-plans long =
         split (isAsk e)
         (λ a. rw a (own-plans (ask (workAt t (e .room)) (e .mode)) _ (ask-grows (workAt t (e .room)) (e .mode))
-        (omega (arith, asks-place t s (acts .formed) (e .room) (acts .low) (acts .idle (other a)) (acts .free a))) (rw a at long) (sym (simp a))))
+        (omega (arith, asks-place t s (acts .formed) (e .room) (acts .low) (acts .idle (other a)))) (rw a at long) (sym (simp a))))
         (λ a. split (isUpgrade e)
         (λ u. rw (a, u) (own-plans (upgrade (workAt t (e .room))) _ (upgrade-grows (workAt t (e .room))) (queue-fits t s (acts .formed)) (rw (a, u) at long) (sym (simp (a, u)))))
         (λ u. split (isHandBack e)

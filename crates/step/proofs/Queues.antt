@@ -11,7 +11,6 @@ use Rattle.base.specs.Sums.{one}
 use Rattle.modes.specs.Codes.{W}
 use Rattle.modes.specs.Modes.{agrees, canLend}
 use Rattle.room.specs.declared.Send.{Send}
-use Rattle.room.specs.declared.Send.the-variants as out
 use Rattle.room.specs.Owned.{owned, hasNoEntries}
 use Rattle.room.specs.Rules.{settled, granted, tokened, reduced}
 use Rattle.table.specs.declared.Queued.{Queued}
@@ -19,6 +18,8 @@ use Rattle.table.specs.declared.Message.{Message}
 use Rattle.table.specs.declared.Message.the-variants as msg
 use Rattle.rules.specs.Work.{Work, withRoom, withQueue, send, join, sendOut, change}
 use Rattle.rules.specs.Rules.{hold, want, lend, pass, settle, upgradeWaits, upgraded, serveQueue, serve, settleOrServe, isEmpty, askWith, askWithout, ask, upgrade, handBack, takeRequest, receive}
+use Rattle.facts.specs.Names.{isRequest}
+use Rattle.facts.specs.Wires.{sent-out}
 
 -- the same room acts in v as in w, and v's queue is at most of this length
 pub record Grows (most : ℕ) (w v : Work) : Type 0 where
@@ -39,9 +40,7 @@ more : (j k : ℕ) (w v : Work) → j ≤ k → Grows j w v → Grows k w v
 more j k w v h g = record { me = g .me; queue = omega (arith, g .queue) }
 
 sends : (w : Work) (s : Send) → (sendOut w s .me ≡ w .me) × (sendOut w s .queue ≡ w .queue)
-unfolding sendOut send
-sends w out.Nothing = (refl, refl)
-sends w (out.Reduce to l m) = (refl, refl)
+sends w s = (ap (λ (v : Work). v .me) (sent-out w s), ap (λ (v : Work). v .queue) (sent-out w s))
 
 settle-grows : (w : Work) → Grows (here w) w (settle w)
 unfolding settle
@@ -115,14 +114,6 @@ request-grows w o m idle =
     (λ p. by-test (Grows (here w + 1) w) (idle && not (eqb o (w .me)) && canLend (owned (w .room)) m) (settle (lend w o m)) _
     (λ q. more (here w) (here w + 1) w _ (omega arith) (after (here w) w (lend w o m) _ refl (settle-grows (lend w o m))))
     (λ q. record { me = refl; queue = omega arith }))
-
--- a message that is a REQUEST
-unfoldable pub isRequest : Message → Bool
-isRequest msg.Nothing = false
-isRequest (msg.Request o m idle) = true
-isRequest (msg.Grant m l) = false
-isRequest (msg.Token m rest l) = false
-isRequest (msg.Reduce l m) = false
 
 pub receive-grows : (w : Work) (a : ℕ) (x : Message) → Grows (length (w .queue) + one (isRequest x)) w (receive w a x)
 unfolding receive isRequest

@@ -67,7 +67,7 @@ module _ (n : ℕ) (old new : ℕ → Room) (messages : List Wire) (me : ℕ) (l
     where
       lender : (new me .lender ≡ nobody) ⊎ (new me .lender ≡ old me .lender)
       lender =
-          rw here (credited-either (old me) m (λ (r : Room). (r .lender ≡ nobody) ⊎ (r .lender ≡ old me .lender)) (inl refl) (inr refl))
+          rw here (credited-either (old me) m (λ (r : Room). (r .lender ≡ nobody) ⊎ (r .lender ≡ old me .lender)) (λ e. inl refl) (λ e. inr refl))
 
   -- LEND by the room with the token, which has no lender and gets no GRANT: it becomes the lowest
   pub lend-root-tree : (y m : ℕ) → y ≢ me → new me ≡ lentTo (old me) y m → old me .lender ≡ nobody
@@ -131,7 +131,7 @@ module _ (n : ℕ) (old new : ℕ → Room) (messages : List Wire) (me : ℕ) (l
       sent = wire me y (msg.Token m (remaining (old me) y) (nextLink (old me .counter)))
 
       lender : (new me .lender ≡ nobody) ⊎ (new me .lender ≡ y)
-      lender = rw here (passed-either (old me) y (λ (r : Room). (r .lender ≡ nobody) ⊎ (r .lender ≡ y)) (inl free) (inr refl))
+      lender = rw here (passed-either (old me) y (λ (r : Room). (r .lender ≡ nobody) ⊎ (r .lender ≡ y)) (λ e. inl free) (λ e. inr refl))
 
       at : (c : ℕ) → new c .lender ≢ nobody → NoTokenTo c messages → (c ≡ me) ⊎ (c ≢ me)
           → (new c .lender ≡ y) ⊎ ((new c .lender ≡ old c .lender) × NoTokenTo c messages)
@@ -190,4 +190,4 @@ module _ (n : ℕ) (old new : ℕ → Room) (messages : List Wire) (me : ℕ) (l
         (λ w member q. mem-remove k messages member)
       where
         lender : new me .lender ≡ old me .lender
-        lender = rw here (reduced-either (old me) a l m (λ (r : Room). r .lender ≡ old me .lender) refl refl)
+        lender = rw here (reduced-either (old me) a l m (λ (r : Room). r .lender ≡ old me .lender) (λ e. refl) (λ e. refl))

@@ -1,34 +1,23 @@
 -- The root: the room that has the token or to which it is under way. There is one, since there is one token.
-use mathlib.Core.Path.{_≡_, refl, sym, _∙_, ap}
-use mathlib.Core.Logic.{_⊎_, inl, inr, _≢_}
+use mathlib.Core.Path.{_≡_, sym, _∙_, ap}
+use mathlib.Core.Logic.{_⊎_, inl, inr, _≢_, ⊎-elim}
 use mathlib.Core.Bool.{Bool, true, false}
-use mathlib.Core.List.{List, [], _∷_, List·Memᴰ·head, List·Memᴰ·tail, List·Memᴰ·cases-cons, List·Memᴰ·not-nil}
+use mathlib.Core.List.{List, [], _∷_, List·Memᴰ·cases-cons, List·Memᴰ·not-nil}
 use Prim.Native.Nat.{ℕ, _≤_, _<_}
 use native.Mathlib.Omega.{arith}
-use Rattle.base.specs.Choice.{split}
 use Rattle.base.specs.Tests.{clash}
-use Rattle.base.specs.Below.{some-or-none}
-use Rattle.base.specs.Sums.{one, sum-bound}
+use Rattle.base.specs.Sums.{one}
 use Rattle.base.specs.Lists.{Mem, total, count, mem-total}
 use Rattle.room.specs.declared.Room.{Room}
 use Rattle.table.specs.declared.Wire.{Wire}
 use Rattle.table.specs.Formed.{isToken, tokens}
-use Rattle.facts.specs.Tokens.{holder-alone, holder-quiet, carried-tokenless}
+use Rattle.facts.specs.Tokens.{token-somewhere, holder-alone, holder-quiet, carried-tokenless}
 use Rattle.tree.specs.Tree.{NoTokenTo}
 
 -- no other room has the token, and to none it is under way
 pub record Root (n : ℕ) (rooms : ℕ → Room) (messages : List Wire) (r : ℕ) : Type 0 where
   pub tokenless : (c : ℕ) → c < n → c ≢ r → rooms c .token ≡ false
   pub untold : (c : ℕ) → c < n → c ≢ r → NoTokenTo c messages
-
--- where the count is not zero some element passes the test
-list-found : {A : Type 0} (p : A → Bool) (l : List A) → 1 ≤ count p l → (a : A) × Mem a l × (p a ≡ true)
-unfolding total
-list-found p [] h = absurd (omega arith)
-list-found p (x ∷ l) h =
-    split (p x)
-    (λ q. (x, List·Memᴰ·head refl, q))
-    (λ q. let f = list-found p l (omega (arith, ap one q)) in (f .0, List·Memᴰ·tail (f .1), f .2))
 
 -- where at most one element passes a test two that pass it are the same
 list-sole : {A : Type 0} (p : A → Bool) (l : List A) → count p l ≤ 1 → (a b : A) → Mem a l → Mem b l → p a ≡ true → p b ≡ true → a ≡ b
@@ -70,13 +59,8 @@ module _ (n : ℕ) (rooms : ℕ → Room) (messages : List Wire) (sole : tokens 
 -- there is a root
 pub rooted : (n : ℕ) (rooms : ℕ → Room) (messages : List Wire) → tokens n rooms messages ≡ 1 → ((w : Wire) → Mem w messages → w .to < n)
     → (r : ℕ) × (r < n) × Root n rooms messages r
-unfolding tokens
-rooted n rooms messages sole low = go (some-or-none n (λ c. rooms c .token))
-  where
-    go : ((c : ℕ) × (c < n) × (rooms c .token ≡ true)) ⊎ ((c : ℕ) → c < n → rooms c .token ≡ false) → (r : ℕ) × (r < n) × Root n rooms messages r
-    go (inl (c, h, with)) = (c, h, holder-root n rooms messages (omega arith) c h with)
-    go (inr none) =
-        let f =
-        list-found (λ w. isToken (w .message)) messages
-        (omega (arith, sum-bound n 0 (λ c. one (rooms c .token)) (λ c h. omega (arith, ap one (none c h))))) in
-        (f .0 .to, low (f .0) (f .1), receiver-root n rooms messages (omega arith) (f .0) (f .1) (f .2))
+rooted n rooms messages sole low =
+    ⊎-elim
+    (λ f. (f .0, f .1, holder-root n rooms messages (omega arith) (f .0) (f .1) (f .2)))
+    (λ f. (f .0 .to, low (f .0) (f .1), receiver-root n rooms messages (omega arith) (f .0) (f .1) (f .2)))
+    (token-somewhere n rooms messages (omega arith))

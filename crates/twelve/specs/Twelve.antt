@@ -20,25 +20,11 @@ use Rattle.table.specs.Limits.{queueLimit, wireLimit}
 use Rattle.table.specs.Tables.{noWire, noQueued, roomAt, freshTable, blankTable, freshOf}
 use Rattle.table.specs.Oldest.{oldestIn, oldestOf}
 use Rattle.table.specs.Formed.{sizesFit, entryFine, roomFine, isBlankEntry, isBlankRoom, due, queuedFine, isBlankQueued, messageFine, namesRightly, wireFine, isNothing, isBlankWire, isToken, tokens, isNamedIn, names, roomsFine, queueFine, wiresFine, namesFine, wellFormed}
-use Rattle.rules.specs.declared.Event.{Event}
-use Rattle.rules.specs.Events.{ASK, UPGRADE, HANDBACK, DELIVER}
+use Rattle.rules.specs.Events.{asks, upgrades, handsBack, delivers}
 use Rattle.rules.specs.Work.{send, join, sendOut}
 use Rattle.rules.specs.Rules.{hold, want, lend, pass, settle, upgradeWaits, upgraded, serveQueue, serve, settleOrServe, isEmpty, askWith, askWithout, ask, upgrade, handBack, takeRequest, receive}
 use Rattle.rules.specs.Refusals.{first, isFound, anyWorn, refusalAs, refusal}
 use Rattle.rules.specs.Step.{after, outcome, delivered, made, stepOf, runs}
-
--- the events, as numbers
-abbrev pub asks : ℕ → ℕ → Event
-asks x m = record { kind = ASK; room = x; other = 0; mode = m }
-
-abbrev pub upgrades : ℕ → Event
-upgrades x = record { kind = UPGRADE; room = x; other = 0; mode = 0 }
-
-abbrev pub handsBack : ℕ → Event
-handsBack x = record { kind = HANDBACK; room = x; other = 0; mode = 0 }
-
-abbrev pub delivers : ℕ → ℕ → Event
-delivers a b = record { kind = DELIVER; room = a; other = b; mode = 0 }
 
 -- a room's held and wanted mode
 abbrev pub modesAre : Table → ℕ → ℕ → ℕ → Bool
