@@ -59,8 +59,11 @@ GoesOn t next = (k : ℕ) → Resting (drained t (firsts k next)) ⊎ (isMade (d
 
 -- Demand 3, second half, of a table that events lead to
 pub record Drains (n : ℕ) (t : Table) : Type 0 where
+  -- at most so many are accepted
   pub few : (es : List Event) → steps t es ≤ bound t
+  -- "When no more can be accepted nobody waits",
   pub rests : (es : List Event) → Resting (drained t es) → (c : ℕ) → c < n → roomAt (drained t es) c .wanted ≡ 0
+  -- and each room that waited has been given its mode
   pub given : (es : List Event) → Resting (drained t es) → (c : ℕ) → c < n → roomAt t c .wanted ≢ 0
       → HeldOnTheWay c (roomAt t c .wanted) t es
   -- such an end is reached within the bound by whoever goes on, whatever each next event is

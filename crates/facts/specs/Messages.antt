@@ -15,7 +15,7 @@ use Rattle.room.specs.declared.Room.{Room}
 use Rattle.table.specs.declared.Wire.{Wire}
 use Rattle.table.specs.declared.Message.{Message}
 use Rattle.table.specs.declared.Message.the-variants as msg
-use Rattle.table.specs.Formed.{isMode, due, messageFine, namesRightly}
+use Rattle.table.specs.Formed.{isMode, due, isGranted, messageFine, namesRightly}
 use Rattle.facts.specs.Moments.{QueuedFacts, MessageFacts}
 
 -- a GRANT of mode m to a room with this record
@@ -46,7 +46,8 @@ Proper n rooms to (msg.Token m rest l) = TokenFacts (rooms to) m rest
 Proper n rooms to (msg.Reduce l m) = m ≤ W
 
 -- IR, R and IW are the small modes but none
-granted-weak : (m : ℕ) → (eqb m IR || eqb m R || eqb m IW) ≡ true → (IR ≤ m) × (small m ≡ true)
+granted-weak : (m : ℕ) → isGranted m ≡ true → (IR ≤ m) × (small m ≡ true)
+unfolding isGranted
 granted-weak m h =
     ⊎-elim
     (λ low. ⊎-elim (is IR (omega arith) (omega arith)) (is R (omega arith) (omega arith)) (or-use (eqb m IR) (eqb m R) low))
@@ -56,7 +57,8 @@ granted-weak m h =
     is : (k : ℕ) → IR ≤ k → k ≤ R → eqb m k ≡ true → (IR ≤ m) × (small m ≡ true)
     is k some low e = rw (eqb-true m k e) (some, low-small k low)
 
-weak-granted : (m : ℕ) → IR ≤ m → small m ≡ true → (eqb m IR || eqb m R || eqb m IW) ≡ true
+weak-granted : (m : ℕ) → IR ≤ m → small m ≡ true → isGranted m ≡ true
+unfolding isGranted
 weak-granted m some weak = go (same? m IR) (same? m R)
   where
     go : (m ≡ IR) ⊎ (m ≢ IR) → (m ≡ R) ⊎ (m ≢ R) → (eqb m IR || eqb m R || eqb m IW) ≡ true

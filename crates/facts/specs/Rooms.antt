@@ -15,7 +15,7 @@ use Rattle.room.specs.Limits.{roomLimit, nobody}
 use Rattle.room.specs.Record.{entryAt}
 use Rattle.room.specs.Owned.{owned}
 use Rattle.room.proofs.Owning.{owned-either}
-use Rattle.table.specs.Formed.{entryFine, roomFine}
+use Rattle.table.specs.Formed.{entryFine, roomFine, holdsRightly, owesRightly, entriesFine}
 
 -- room c's entry for room j, in a table of n rooms
 pub record EntryFacts (n c j : ℕ) (e : Entry) : Type 0 where
@@ -96,7 +96,7 @@ module _ (n c j : ℕ) (e : Entry) where
 
 module _ (n c : ℕ) (r : Room) where
   pub room-facts : roomFine n c r ≡ true → RoomFacts n c r
-  unfolding roomFine
+  unfolding roomFine holdsRightly owesRightly entriesFine
   room-facts h =
       record {
         held-code = leb-true _ _ (search (and-left, and-right) depth 25 fits 4000);
@@ -139,20 +139,20 @@ module _ (n c : ℕ) (r : Room) where
           both b = (eqb-true _ _ (and-left _ _ b), eqb-true _ _ (and-right (eqb (r .held) U) _ b))
 
   pub room-test : RoomFacts n c r → roomFine n c r ≡ true
-  unfolding roomFine
+  unfolding roomFine holdsRightly owesRightly entriesFine
   room-test f =
-      le-leb (r .held) W (f .held-code)
-      also le-leb (r .wanted) W (f .wanted-code)
-      also le-leb (r .credit) W (f .credit-code)
-      also lt-ltb (r .toward) n (f .toward-low)
-      also lender-in
+      lt-ltb (r .toward) n (f .toward-low)
       also same-show (eqb (r .toward) c) (r .token) toward-is
+      also (le-leb (r .held) W (f .held-code)
+      also le-leb (r .wanted) W (f .wanted-code)
+      also implies-show (eqb (r .held) U || eqb (r .held) W) (r .token) strong
+      also together)
+      also (le-leb (r .credit) W (f .credit-code)
+      also lender-in
       also rw (ne-eqb (r .lender) c (f .lender-other)) refl
       also given (r .lender) nobody (r .link) 0 (f .unlinked)
       also same-show (eqb (r .lender) nobody) (eqb (r .credit) 0) credit-is
-      also implies-show (r .token) (eqb (r .lender) nobody) (λ e. eq-eqb _ _ (f .token-free e))
-      also implies-show (eqb (r .held) U || eqb (r .held) W) (r .token) strong
-      also together
+      also implies-show (r .token) (eqb (r .lender) nobody) (λ e. eq-eqb _ _ (f .token-free e)))
       also all-of roomLimit (λ j. entryFine n c j (entryAt r j)) (λ j l. entry-test n c j (entryAt r j) (f .entry j l))
     where
       lender-in : (eqb (r .lender) nobody || ltb (r .lender) n) ≡ true

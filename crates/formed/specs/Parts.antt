@@ -1,19 +1,13 @@
--- Parts of the tests of the queue and the messages that have a function each.
+-- A place of the queue and of the wires.
 use Prim.Native.Nat.{ℕ}
-use mathlib.Core.Bool.{Bool, _||_}
+use mathlib.Core.Bool.{Bool}
 use mathlib.Core.List.{List}
-use lib.Dec.{eqb}
 use Rattle.base.specs.Choice.{if_then_else_}
-use Rattle.modes.specs.Codes.{IR, R, IW}
 use Rattle.table.specs.declared.Queued.{Queued}
 use Rattle.table.specs.declared.Wire.{Wire}
 use Rattle.table.specs.Formed.{queuedFine, isBlankQueued, wireFine, isBlankWire}
 use Rattle.records.specs.declared.Standing.{Standing}
 use Rattle.formed.specs.Standings.{roomsOf}
-
--- "GRANT modes only IR, R, IW"
-unfoldable pub isGranted : ℕ → Bool
-isGranted m = eqb m IR || eqb m R || eqb m IW
 
 -- a place of the queue, and a wire: as it should be where it is in use, else blank
 unfoldable pub queuePlaceFine : ℕ → List Standing → Bool → Queued → Bool

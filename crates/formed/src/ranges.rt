@@ -1,7 +1,6 @@
 // "n, codes, counts and room numbers in range"
 ghost use mathlib.Core.Path.{_≡_};
-ghost use Rattle.table.specs.Formed.{isMode, sizesFit};
-ghost use Rattle.formed.specs.Parts.{isGranted};
+ghost use Rattle.table.specs.Formed.{isMode, isGranted, sizesFit};
 use modes::IR;
 use modes::IW;
 use modes::NONE;

@@ -16,7 +16,7 @@ use Rattle.table.specs.declared.Message.the-variants as msg
 use Rattle.table.specs.Limits.{queueLimit, wireLimit}
 use Rattle.table.specs.Tables.{noWire, noQueued, roomAt}
 use Rattle.table.specs.Oldest.{oldestIn, oldestOf}
-use Rattle.table.specs.Formed.{sizesFit, entryFine, roomFine, isBlankEntry, isBlankRoom, due, queuedFine, isBlankQueued, messageFine, namesRightly, wireFine, isNothing, isBlankWire, isToken, tokens, isNamedIn, names, roomsFine, queueFine, wiresFine, namesFine, wellFormed}
+use Rattle.table.specs.Formed.{sizesFit, entryFine, roomFine, holdsRightly, owesRightly, entriesFine, isBlankEntry, isBlankRoom, due, queuedFine, isBlankQueued, messageFine, isGranted, namesRightly, wireFine, isNothing, isBlankWire, isToken, tokens, isNamedIn, names, roomsFine, queueFine, wiresFine, namesFine, wellFormed}
 use Rattle.base.specs.Below.{all-at}
 use Rattle.base.specs.Sums.{sum}
 use Rattle.base.specs.Lists.{total, remove}
@@ -48,8 +48,8 @@ bareEvent = delivers 0 1
 -- The delivery is accepted, and puts a GRANT on the way to the room with the token.
 pub bare-not-kept : Shaped bareTable × (wellFormed bareTable ≡ true) × (stepOf bareTable bareEvent .«number» ≡ 0)
     × (wellFormed (stepOf bareTable bareEvent .table) ≡ false)
-unfolding bareTable bareEvent wellFormed sizesFit roomsFine roomFine entryFine isBlankRoom isBlankEntry queueFine queuedFine isBlankQueued
-    wiresFine wireFine messageFine namesRightly isBlankWire isNothing tokens isToken namesFine names isNamedIn due sum total
+unfolding bareTable bareEvent wellFormed sizesFit roomsFine roomFine holdsRightly owesRightly entriesFine entryFine isBlankRoom isBlankEntry queueFine queuedFine isBlankQueued
+    wiresFine wireFine messageFine isGranted namesRightly isBlankWire isNothing tokens isToken namesFine names isNamedIn due sum total
     stepOf refusal refusalAs first isFound anyWorn oldestOf oldestIn made delivered outcome after remove padded
     receive takeRequest agrees isStronger canLend larger strongest owned lend lent lentTo nextLink isWorn entryOf settle settled send sendOut
 bare-not-kept = (record { rooms = refl; entries = entries; queue = refl; wires = refl }, refl, refl, refl)

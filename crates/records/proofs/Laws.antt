@@ -1,6 +1,6 @@
 -- A law for each branch of the tests of a room's record, over plain values.
 use mathlib.Core.Path.{_≡_, refl, sym, _∙_}
-use mathlib.Core.Bool.{Bool, true, false, not, _&&_, _||_, Bool·beq, and-false, and-true, or-false, and-assoc, and-comm}
+use mathlib.Core.Bool.{Bool, true, false, not, _&&_, Bool·beq, and-false, and-true, or-false}
 use mathlib.Core.List.{List}
 use Prim.Native.Nat.{ℕ, _≤_, _<_}
 use native.Mathlib.Omega.{arith}
@@ -10,13 +10,13 @@ use borrow.Author.Tests.{le-leb, lt-leb, lt-ltb, le-ltb, eq-eqb, ne-eqb, eqb-tru
 use Rattle.base.specs.Choice.{split}
 use Rattle.base.specs.Tests.{_implies_}
 use Rattle.base.specs.Below.{allBelow}
-use Rattle.modes.specs.Codes.{U, W, isCode}
+use Rattle.modes.specs.Codes.{isCode}
 use Rattle.room.specs.declared.Room.{Room}
 use Rattle.room.specs.declared.Entry.{Entry}
 use Rattle.room.specs.Limits.{roomLimit, nobody}
 use Rattle.room.specs.Record.{noEntry, entryAt}
-use Rattle.table.specs.Formed.{entryFine, isBlankEntry, roomFine, isBlankRoom, due}
-use Rattle.records.specs.Parts.{holdsRightly, owesRightly, entriesFine, roomPlaceFine}
+use Rattle.table.specs.Formed.{due, entriesFine, entryFine, holdsRightly, isBlankEntry, isBlankRoom, owesRightly, roomFine}
+use Rattle.records.specs.Parts.{roomPlaceFine}
 use Rattle.records.specs.Seen.{standing}
 use Rattle.records.proofs.Lists.{all-same}
 
@@ -158,11 +158,6 @@ module _ (r : Room) where
   unfolding standing due
   standing-held h = simp (ne-eqb (r .held) 0 h)
 
--- the tests of a record, in the order of `roomFine` and put together by subject
-module _ (a b d e f g h i j k l m z : Bool) where
-  by-subject : (a && b && d && e && f && g && h && i && j && k && l && m && z) ≡ (e && g && (a && b && l && m) && (d && f && h && i && j && k) && z)
-  by-subject = simp (and-assoc, and-comm, and-swap)
-
 -- the record at a place
 module _ (n c : ℕ) (r : Room) where
   pub room-past : n ≤ c → (b : Bool) → b ≡ isBlankRoom r → b ≡ roomPlaceFine n c r
@@ -173,23 +168,8 @@ module _ (n c : ℕ) (r : Room) where
     parts : roomPlaceFine n c r
         ≡ (ltb (r .toward) n && Bool·beq (eqb (r .toward) c) (r .token) && holdsRightly (r .held) (r .wanted) (r .token) && owesRightly n c r
         && entriesFine n c (r .entries))
-    unfolding roomPlaceFine roomFine holdsRightly owesRightly entriesFine
-    parts =
-        simp (lt-ltb c n low)
-        (by-subject
-        (isCode (r .held))
-        (isCode (r .wanted))
-        (isCode (r .credit))
-        (ltb (r .toward) n)
-        (eqb (r .lender) nobody || ltb (r .lender) n)
-        (Bool·beq (eqb (r .toward) c) (r .token))
-        (not (eqb (r .lender) c))
-        (eqb (r .lender) nobody implies eqb (r .link) 0)
-        (Bool·beq (eqb (r .lender) nobody) (eqb (r .credit) 0))
-        (r .token implies eqb (r .lender) nobody)
-        ((eqb (r .held) U || eqb (r .held) W) implies r .token)
-        (eqb (r .held) 0 || eqb (r .wanted) 0 || eqb (r .held) U && eqb (r .wanted) W)
-        (allBelow roomLimit (λ j. entryFine n c j (entryAt r j))))
+    unfolding roomPlaceFine roomFine
+    parts = simp (lt-ltb c n low)
 
     pub room-toward : n ≤ r .toward → false ≡ roomPlaceFine n c r
     room-toward h = rw parts (simp (le-ltb (r .toward) n h))

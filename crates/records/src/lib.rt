@@ -1,7 +1,7 @@
 // The rooms' records: each as it should be, or blank, and what is seen of them.
 ghost use mathlib.Core.Path.{_≡_};
-ghost use Rattle.table.specs.Formed.{entryFine, isBlankRoom};
-ghost use Rattle.records.specs.Parts.{holdsRightly, owesRightly, entriesFine, roomPlaceFine};
+ghost use Rattle.table.specs.Formed.{entryFine, entriesFine, holdsRightly, owesRightly, isBlankRoom};
+ghost use Rattle.records.specs.Parts.{roomPlaceFine};
 ghost use Rattle.records.specs.Seen.{standing, seenIn};
 use modes::IR;
 use modes::IW;

@@ -1,9 +1,15 @@
 // One room's record by value: what it owns, and how lending, passing, settling and taking a message change it.
 // Each method returns the changed record and, beside it, what is to be sent.
 ghost use mathlib.Core.Path.{_≡_};
-ghost use Rattle.room.specs.Record.{entryAt, setEntry, entryOf, noEntry, blankRoom};
+ghost use Rattle.room.specs.Record.{entryAt, setEntry, blankRoom};
 ghost use Rattle.room.specs.Owned.{owned, hasNoEntries};
-ghost use Rattle.room.specs.Rules.{nextLink, lent, passed, settled, granted, tokened, reduced, leaving};
+ghost use Rattle.room.specs.Rules.{lent, passed, settled, granted, tokened, reduced, leaving};
+
+mod parts; // parts.rt: an entry, the stronger mode, the next link number
+
+use parts::entry_of;
+use parts::larger;
+use parts::next_link;
 
 // The rooms that one table can have, and the entries of a record: one for each.
 pub const ROOMS: usize = 16;
@@ -63,19 +69,6 @@ pub struct Passed {
     pub rest: u8,
     pub link: u32,
     pub worn: bool,
-}
-
-// An entry of this mode; mode none has link number zero.
-fn entry_of(mode: u8, link: u32) -> Entry
-    ensures { λ r. ⌜ r ≡ entryOf mode link ⌝ }
-{
-    match mode {
-        modes::NONE => NO_ENTRY,
-        modes::IR..=255 => Entry {
-            mode: mode,
-            link: link,
-        },
-    }
 }
 
 impl Room {
@@ -295,23 +288,5 @@ impl Room {
             return self;
         }
         self.with_entry(a, entry_of(mode, link))
-    }
-}
-
-// The stronger of two modes.
-fn larger(a: u8, b: u8) -> u8
-    ensures { λ r. ⌜ r ≡ Rattle.room.specs.Owned.larger a b ⌝ }
-{
-    if modes::stronger(b, a) { b } else { a }
-}
-
-// The counter goes up by 1, as far as there are link numbers.
-fn next_link(counter: u32) -> u32
-    ensures { λ r. ⌜ r ≡ nextLink counter ⌝ }
-{
-    if counter < LAST_LINK {
-        counter + 1
-    } else {
-        LAST_LINK
     }
 }

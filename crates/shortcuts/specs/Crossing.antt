@@ -28,7 +28,7 @@ use Rattle.table.specs.declared.Message.{Message}
 use Rattle.table.specs.declared.Message.the-variants as msg
 use Rattle.table.specs.Limits.{queueLimit, wireLimit}
 use Rattle.table.specs.Tables.{noWire, noQueued, roomAt, messagesOf}
-use Rattle.table.specs.Formed.{sizesFit, entryFine, roomFine, isBlankEntry, isBlankRoom, due, isBlankQueued, messageFine, namesRightly, wireFine, isNothing, isBlankWire, isToken, tokens, isNamedIn, names, roomsFine, queueFine, wiresFine, namesFine, wellFormed}
+use Rattle.table.specs.Formed.{sizesFit, entryFine, roomFine, holdsRightly, owesRightly, entriesFine, isBlankEntry, isBlankRoom, due, isBlankQueued, messageFine, isGranted, namesRightly, wireFine, isNothing, isBlankWire, isToken, tokens, isNamedIn, names, roomsFine, queueFine, wiresFine, namesFine, wellFormed}
 use Rattle.rules.specs.Rules.{upgradeWaits}
 use Rattle.rules.specs.Limits.{wornLimit}
 use Rattle.facts.specs.Whole.{facts-of}
@@ -91,8 +91,8 @@ other w i m e h = clash (ap isRequest (sym e ∙ only w i)) h
 
 -- well formed, by the test
 lawful : Lawful crossing
-unfolding crossing wellFormed sizesFit roomsFine roomFine entryFine isBlankRoom isBlankEntry queueFine isBlankQueued
-    wiresFine wireFine messageFine namesRightly isBlankWire isNothing tokens isToken namesFine names isNamedIn due sum total
+unfolding crossing wellFormed sizesFit roomsFine roomFine holdsRightly owesRightly entriesFine entryFine isBlankRoom isBlankEntry queueFine isBlankQueued
+    wiresFine wireFine messageFine isGranted namesRightly isBlankWire isNothing tokens isToken namesFine names isNamedIn due sum total
 lawful = (refl, unowned, record { rooms = refl; entries = entries; queue = refl; wires = refl })
   where
     unowned : (w : Wire) → Mem w messages → (o m : ℕ) (idle : Bool) → w .message ≡ msg.Request o m idle → rooms o .token ≡ false

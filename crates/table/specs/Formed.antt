@@ -3,6 +3,7 @@ use Prim.Native.Nat.{ℕ, _+_}
 use mathlib.Core.Bool.{Bool, true, false, not, _&&_, _||_, Bool·beq}
 use mathlib.Core.List.{List}
 use lib.Dec.{ltb, leb, eqb}
+use lib.ListN.{getD}
 use Rattle.base.specs.Choice.{if_then_else_}
 use Rattle.base.specs.Tests.{_implies_}
 use Rattle.base.specs.Below.{allBelow}
@@ -12,7 +13,7 @@ use Rattle.modes.specs.Codes.{none, IR, R, U, IW, W, isCode}
 use Rattle.room.specs.declared.Room.{Room}
 use Rattle.room.specs.declared.Entry.{Entry}
 use Rattle.room.specs.Limits.{roomLimit, nobody}
-use Rattle.room.specs.Record.{entryAt}
+use Rattle.room.specs.Record.{noEntry, entryAt}
 use Rattle.table.specs.declared.Table.{Table}
 use Rattle.table.specs.declared.Wire.{Wire}
 use Rattle.table.specs.declared.Queued.{Queued}
@@ -35,16 +36,24 @@ entryFine n c j e =
     && (eqb (e .mode) none implies eqb (e .link) 0)
     && ((leb n j || eqb j c) implies eqb (e .mode) none)
 
--- the record of room c of n
-unfoldable pub roomFine : ℕ → ℕ → Room → Bool
-roomFine n c r =
-    isCode (r .held)
-    && isCode (r .wanted)
-    && isCode (r .credit)
-    && ltb (r .toward) n
+unfoldable pub entriesFine : ℕ → ℕ → List Entry → Bool
+entriesFine n c entries = allBelow roomLimit (λ j. entryFine n c j (getD entries j noEntry))
+
+-- the held and the wanted mode
+unfoldable pub holdsRightly : ℕ → ℕ → Bool → Bool
+holdsRightly held wanted token =
+    isCode held
+    && isCode wanted
+    -- "U and W are held only with the token"
+    && ((eqb held U || eqb held W) implies token)
+    -- "held and wanted together only as U and W (an upgrade)"
+    && (eqb held none || eqb wanted none || eqb held U && eqb wanted W)
+
+-- the lender, the credit and the link number of room c of n
+unfoldable pub owesRightly : ℕ → ℕ → Room → Bool
+owesRightly n c r =
+    isCode (r .credit)
     && (eqb (r .lender) nobody || ltb (r .lender) n)
-    -- "toward is oneself exactly for the room with the token"
-    && Bool·beq (eqb (r .toward) c) (r .token)
     -- "no lender is oneself"
     && not (eqb (r .lender) c)
     -- "and so has a room without a lender" link number zero
@@ -53,11 +62,16 @@ roomFine n c r =
     && Bool·beq (eqb (r .lender) nobody) (eqb (r .credit) none)
     -- "the room with the token has no lender"
     && (r .token implies eqb (r .lender) nobody)
-    -- "U and W are held only with the token"
-    && ((eqb (r .held) U || eqb (r .held) W) implies r .token)
-    -- "held and wanted together only as U and W (an upgrade)"
-    && (eqb (r .held) none || eqb (r .wanted) none || eqb (r .held) U && eqb (r .wanted) W)
-    && allBelow roomLimit (λ j. entryFine n c j (entryAt r j))
+
+-- the record of room c of n
+unfoldable pub roomFine : ℕ → ℕ → Room → Bool
+roomFine n c r =
+    ltb (r .toward) n
+    -- "toward is oneself exactly for the room with the token"
+    && Bool·beq (eqb (r .toward) c) (r .token)
+    && holdsRightly (r .held) (r .wanted) (r .token)
+    && owesRightly n c r
+    && entriesFine n c (r .entries)
 
 -- "Records of rooms n and above .. are all none or zero"
 unfoldable pub isBlankEntry : Entry → Bool
@@ -81,11 +95,15 @@ queuedFine n rooms q = ltb (q .room) n && isMode (q .mode) && eqb (due (rooms (q
 unfoldable pub isBlankQueued : Queued → Bool
 isBlankQueued q = eqb (q .room) 0 && eqb (q .mode) none
 
--- "GRANT modes only IR, R, IW, other message modes not none except the remaining mode and REDUCE"
+-- "GRANT modes only IR, R, IW,
+unfoldable pub isGranted : ℕ → Bool
+isGranted m = eqb m IR || eqb m R || eqb m IW
+
+-- other message modes not none except the remaining mode and REDUCE"
 unfoldable pub messageFine : ℕ → Message → Bool
 messageFine n msg.Nothing = false
 messageFine n (msg.Request o m idle) = ltb o n && isMode m
-messageFine n (msg.Grant m l) = eqb m IR || eqb m R || eqb m IW
+messageFine n (msg.Grant m l) = isGranted m
 messageFine n (msg.Token m rest l) = isMode m && isCode rest
 messageFine n (msg.Reduce l m) = isCode m
 

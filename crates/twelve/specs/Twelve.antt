@@ -19,7 +19,7 @@ use Rattle.table.specs.declared.Message.the-variants as msg
 use Rattle.table.specs.Limits.{queueLimit, wireLimit}
 use Rattle.table.specs.Tables.{noWire, noQueued, roomAt, freshTable, blankTable, freshOf}
 use Rattle.table.specs.Oldest.{oldestIn, oldestOf}
-use Rattle.table.specs.Formed.{sizesFit, entryFine, roomFine, isBlankEntry, isBlankRoom, due, queuedFine, isBlankQueued, messageFine, namesRightly, wireFine, isNothing, isBlankWire, isToken, tokens, isNamedIn, names, roomsFine, queueFine, wiresFine, namesFine, wellFormed}
+use Rattle.table.specs.Formed.{sizesFit, entryFine, roomFine, holdsRightly, owesRightly, entriesFine, isBlankEntry, isBlankRoom, due, queuedFine, isBlankQueued, messageFine, isGranted, namesRightly, wireFine, isNothing, isBlankWire, isToken, tokens, isNamedIn, names, roomsFine, queueFine, wiresFine, namesFine, wellFormed}
 use Rattle.rules.specs.Events.{asks, upgrades, handsBack, delivers}
 use Rattle.rules.specs.Work.{send, join, sendOut}
 use Rattle.rules.specs.Rules.{hold, want, lend, pass, settle, upgradeWaits, upgraded, serveQueue, serve, settleOrServe, isEmpty, askWith, askWithout, ask, upgrade, handBack, takeRequest, receive}
@@ -77,7 +77,7 @@ allHold (b ∷ bs) = b && allHold bs
 
 pub twelve-hold : allHold twelve ≡ true
 unfolding allHold twelve runs lentTable lending freshOf freshTable blankTable stepOf made delivered outcome after refusal refusalAs first isFound anyWorn oldestOf oldestIn
-    wellFormed sizesFit roomsFine queueFine wiresFine namesFine roomFine entryFine isBlankRoom isBlankEntry due queuedFine isBlankQueued messageFine namesRightly wireFine isNothing isBlankWire isToken tokens isNamedIn names
+    wellFormed sizesFit roomsFine queueFine wiresFine namesFine roomFine holdsRightly owesRightly entriesFine entryFine isBlankRoom isBlankEntry due queuedFine isBlankQueued messageFine isGranted namesRightly wireFine isNothing isBlankWire isToken tokens isNamedIn names
     ask askWith askWithout upgrade handBack settleOrServe serve serveQueue upgraded upgradeWaits settle pass lend hold want isEmpty takeRequest receive send join sendOut
     nextLink isWorn lentTo lent left remaining passedTo passed credited settled leaving granted lifted tokenedBy tokened reduced entryOf larger strongest owned hasNoEntries
     agrees isStronger canLend sum total remove padded

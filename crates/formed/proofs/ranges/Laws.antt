@@ -8,8 +8,7 @@ use borrow.Author.Tests.{le-leb, lt-leb, eq-eqb, ne-eqb, eqb-false}
 use Rattle.base.specs.Choice.{split}
 use Rattle.room.specs.Limits.{roomLimit}
 use Rattle.table.specs.Limits.{queueLimit, wireLimit}
-use Rattle.table.specs.Formed.{isMode, sizesFit}
-use Rattle.formed.specs.Parts.{isGranted}
+use Rattle.table.specs.Formed.{isGranted, isMode, sizesFit}
 
 module _ (m : ℕ) where
   pub mode-none : m ≡ 0 → false ≡ isMode m

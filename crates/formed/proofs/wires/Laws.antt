@@ -10,10 +10,10 @@ use Rattle.room.specs.Limits.{roomLimit}
 use Rattle.table.specs.declared.Wire.{Wire}
 use Rattle.table.specs.declared.Message.{Message}
 use Rattle.table.specs.declared.Message.the-variants as msg
-use Rattle.table.specs.Formed.{isMode, due, messageFine, namesRightly, wireFine, isNothing, isBlankWire}
+use Rattle.table.specs.Formed.{isGranted, isMode, due, messageFine, namesRightly, wireFine, isNothing, isBlankWire}
 use Rattle.records.specs.declared.Standing.{Standing}
 use Rattle.formed.specs.Standings.{standingAt, roomsOf}
-use Rattle.formed.specs.Parts.{isGranted, wirePlaceFine}
+use Rattle.formed.specs.Parts.{wirePlaceFine}
 use Rattle.formed.specs.Names.{carriedBy}
 
 -- the codes and the room number in a message
@@ -32,7 +32,7 @@ module _ (n : ℕ) (m : Message) where
     message-request h b p = rw e (simp (lt-ltb o n h) p)
 
   pub message-grant : (k l : ℕ) → m ≡ msg.Grant k l → (b : Bool) → b ≡ isGranted k → b ≡ messageFine n m
-  unfolding messageFine isGranted
+  unfolding messageFine
   message-grant k l e b p = rw e p
 
   module _ (k rest l : ℕ) (e : m ≡ msg.Token k rest l) (a : Bool) (p : a ≡ isMode k) where

@@ -1,8 +1,8 @@
 use Rattle.room.proofs.Laws.{entry-none, entry-some}
 use native.Mathlib.Omega.{arith}
 use borrow.Author.Needs.{needs}
-use Rattle.room.proofs.entry_of.Statement.{statement}
-use Rattle.room.proofs.entry_of.Tie as tie
+use Rattle.room.proofs.parts.entry_of.Statement.{statement}
+use Rattle.room.proofs.parts.entry_of.Tie as tie
 
 returns : tie.Need-returns
 returns c = search (needs, entry-none)

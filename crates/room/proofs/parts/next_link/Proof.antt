@@ -1,7 +1,7 @@
 use Rattle.room.proofs.Laws.{next-more, next-last}
 use borrow.Author.Needs.{needs}
-use Rattle.room.proofs.next_link.Statement.{statement}
-use Rattle.room.proofs.next_link.Tie as tie
+use Rattle.room.proofs.parts.next_link.Statement.{statement}
+use Rattle.room.proofs.parts.next_link.Tie as tie
 
 add-result : tie.Need-add-result
 add-result c = search needs

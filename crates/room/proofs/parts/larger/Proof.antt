@@ -1,7 +1,7 @@
 use Rattle.room.proofs.Laws.{larger-first, larger-second}
 use borrow.Author.Needs.{needs}
-use Rattle.room.proofs.larger.Statement.{statement}
-use Rattle.room.proofs.larger.Tie as tie
+use Rattle.room.proofs.parts.larger.Statement.{statement}
+use Rattle.room.proofs.parts.larger.Tie as tie
 
 stronger-requires : tie.Need-stronger-requires
 stronger-requires c κs = search needs
