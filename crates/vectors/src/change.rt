@@ -122,6 +122,23 @@ fn with_reduces(mut t: Table, count: usize) -> Table {
     t
 }
 
+// Another number of rooms, of queue places in use, or of messages.
+fn with_size(mut t: Table, c: Command) -> Table {
+    let word = c.word;
+    match word {
+        words::ROOMS => {
+            t.n = byte(c.a);
+        }
+        words::QUEUED => {
+            t.queued = c.a;
+        }
+        _ => {
+            t.count = c.a;
+        }
+    }
+    t
+}
+
 // A place of the queue by its numbers.
 fn queued(room: usize, mode: usize) -> Queued {
     Queued {
@@ -131,7 +148,7 @@ fn queued(room: usize, mode: usize) -> Queued {
 }
 
 // A table with another queue, other messages, other sizes, or another record of a room. A message is laid on the wire given.
-pub fn changed(mut t: Table, wire: usize, c: Command) -> Table {
+pub fn changed(t: Table, wire: usize, c: Command) -> Table {
     let word = c.word;
     match word {
         words::REQUEST | words::GRANT | words::PASS | words::REDUCE | words::NOTHING => {
@@ -140,18 +157,7 @@ pub fn changed(mut t: Table, wire: usize, c: Command) -> Table {
         words::FILL => with_reduces(t, c.a),
         words::JOIN => with_place(t, QUEUE, queued(c.a, c.b)),
         words::PLACE => with_place(t, c.a, queued(c.b, c.c)),
-        words::ROOMS => {
-            t.n = byte(c.a);
-            t
-        }
-        words::QUEUED => {
-            t.queued = c.a;
-            t
-        }
-        words::COUNT => {
-            t.count = c.a;
-            t
-        }
+        words::ROOMS | words::QUEUED | words::COUNT => with_size(t, c),
         _ => with_room(t, c),
     }
 }
