@@ -85,7 +85,7 @@ module _ {A : Type 0} where
   mem-at (x ∷ l) zero d h = Memᴰ.head refl
   mem-at (x ∷ l) (suc i) d h = Memᴰ.tail (mem-at l i d (le_of_suc-le-suc h))
 
-  pub mem-total : (f : A → ℕ) {l : List A} {a : A} → Mem a l → f a ≤ total f l
+  pub mem-total : (f : A → ℕ) {a : A} {l : List A} → Mem a l → f a ≤ total f l
   unfolding total
   mem-total f (Memᴰ.head {x = x} e) = omega (arith, ap f e)
   mem-total f (Memᴰ.tail m) = omega (arith, mem-total f m)
