@@ -10,7 +10,7 @@ use room::{Changed, Room, Send};
 use table::{Message, Queued, Wire};
 
 // The queue's places from first to last are still in it.
-#[derive(Drop)]
+#[derive(Clone, Copy)]
 pub struct Desk {
     pub me: u8,
     pub room: Room,
@@ -23,11 +23,11 @@ pub struct Desk {
 }
 
 // A desk after one turn of serving, and whether another may follow.
-#[derive(Drop)]
+#[derive(Clone, Copy)]
 pub struct Turned(pub Desk, pub bool);
 
 // What a turn of serving does: it leaves the head of the queue there, the room itself holds the mode, it is lent, or the token goes.
-#[derive(Drop)]
+#[derive(Clone, Copy)]
 pub enum Choice {
     Stop,
     Hold,

@@ -1,4 +1,5 @@
 // What one room does in a step: from its record and the queue to its record, the queue and the messages that it sends.
+#![tactic(auto)]
 ghost use Rattle.std.specs.Prelude.{◌≡◌};
 ghost use Rattle.rules.specs.Rules as rules;
 ghost use Rattle.act.specs.Done.{start_of, done_of, Lays};
@@ -17,7 +18,7 @@ pub const PLACES: usize = QUEUE + 1;
 pub const OUTBOX: usize = PLACES + 2;
 
 // A room before it acts, and the queue.
-#[derive(Drop)]
+#[derive(Clone, Copy)]
 pub struct Start {
     pub me: u8,
     pub room: Room,
@@ -26,7 +27,7 @@ pub struct Start {
 }
 
 // The room after it, the queue that is left, and what was sent; whether a link number above the last was needed.
-#[derive(Drop)]
+#[derive(Clone, Copy)]
 pub struct Done {
     pub room: Room,
     pub queue: [Queued; PLACES],

@@ -16,7 +16,7 @@ const LAST: usize = 48;
 const ENDLESS: usize = 2000;
 
 // A drain: the steps accepted, and how many there can be at most. A failed one has more steps than that.
-#[derive(Drop)]
+#[derive(Clone, Copy)]
 pub struct Trial {
     pub steps: usize,
     pub most: usize,

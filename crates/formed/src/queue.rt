@@ -11,7 +11,7 @@ use room::ROOMS;
 use table::{QUEUE, Queued};
 
 // Whether all places are as they should be; if so, how often each room is named.
-#[derive(Drop)]
+#[derive(Clone, Copy)]
 pub struct Named {
     pub fine: bool,
     pub times: [usize; ROOMS],

@@ -13,7 +13,7 @@ use room::ROOMS;
 use table::{Message, Wire};
 
 // The room that a message names, ROOMS for none, and how many tokens the message carries.
-#[derive(Drop)]
+#[derive(Clone, Copy)]
 pub struct Carried {
     pub room: usize,
     pub tokens: usize,

@@ -1,1 +1,2 @@
 // An accepted step keeps well-formedness: all of it is in specs/.
+#![tactic(auto)]

@@ -1,5 +1,6 @@
 // What a step is going to do, worked out on the table as it came: the first refusal that applies, or what the rules make of one room.
 // Nothing is written here.
+#![tactic(auto)]
 ghost use Rattle.std.specs.Prelude.{◌≡◌, true, ◌&&◌};
 ghost use Rattle.rules.specs.Events as events;
 ghost use Rattle.plan.specs.Plans.{start_at, made_plan, refused_plan, placed, plan_as, Begins};
@@ -15,7 +16,7 @@ pub const BUSY_MESSAGES: usize = 96;
 pub const WORN_COUNTER: u32 = 4294967000;
 
 // A refusal's number; or 0 and what room me has done, with gap many messages at place taken out.
-#[derive(Drop)]
+#[derive(Clone, Copy)]
 pub struct Plan {
     pub number: u8,
     pub me: u8,

@@ -13,14 +13,14 @@ use writing::LINE;
 const KEPT: usize = 65;
 
 // A line of which not all has come yet: its first bytes.
-#[derive(Drop)]
+#[derive(Clone, Copy)]
 pub struct Begun {
     pub bytes: [u8; KEPT],
     pub length: usize,
 }
 
 // The table, the line that has begun, and whether there is somebody to answer.
-#[derive(Drop)]
+#[derive(Clone, Copy)]
 pub struct Talk {
     pub table: Table,
     pub begun: Begun,
@@ -104,7 +104,7 @@ fn turn(t: Table, b: Begun, piece: &[u8], out: &mut [u8]) -> Turned
 }
 
 // Where the next answer goes, and whether all before it could be written.
-#[derive(Drop)]
+#[derive(Clone, Copy)]
 pub struct Pen {
     pub at: usize,
     pub open: bool,

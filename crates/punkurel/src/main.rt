@@ -1,4 +1,5 @@
 // The session program: lines from standard input, answers to standard output. What a line does and what is answered is all in `session`.
+#![tactic(auto)]
 ghost use Rattle.std.specs.Prelude.{◌≤◌, length};
 
 mod lines; // lines.rt: bytes into lines, in whatever pieces they come

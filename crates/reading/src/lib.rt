@@ -1,11 +1,12 @@
 // Reading a line: `n 3`, `a 1 R`, `u 1`, `h 1`, `d 0 1`, and every other byte string.
+#![tactic(auto)]
 ghost use Rattle.std.specs.Prelude.{◌≡◌, length};
 ghost use Rattle.reading.specs.Lines.{digit_of, number_of, short_mode, intent_of, mode_of, before, behind, fresh_command, own_command, ask_command, deliver_command, command_of};
 
 use rules::{ASK, DELIVER, Event, HANDBACK, UPGRADE};
 
 // What a line asks for: nothing that is known, a fresh table of n rooms, or an event.
-#[derive(Drop)]
+#[derive(Clone, Copy)]
 pub enum Command {
     Other,
     Fresh { n: u8 },

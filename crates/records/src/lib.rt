@@ -1,4 +1,5 @@
 // The rooms' records: each as it should be, or blank, and what is seen of them.
+#![tactic(auto)]
 ghost use Rattle.std.specs.Prelude.{◌≡◌};
 ghost use Rattle.table.specs.Formed.{entry_fine, entries_fine, holds_rightly, owes_rightly, is_blank_room};
 ghost use Rattle.records.specs.Parts.{room_place_fine};
@@ -8,7 +9,7 @@ use modes::{IR, IW, NONE, R, U, W, is_code};
 use room::{Entry, NOBODY, ROOMS, Room};
 
 // What the queue and the messages are tested against: the mode that a room waits for, and whether it has the token.
-#[derive(Drop)]
+#[derive(Clone, Copy)]
 pub struct Standing {
     pub due: u8,
     pub token: bool,
@@ -21,7 +22,7 @@ pub const NO_STANDING: Standing = Standing {
 };
 
 // Whether all rooms are as they should be; if so, how many have the token, and each room's standing.
-#[derive(Drop)]
+#[derive(Clone, Copy)]
 pub struct Seen {
     pub fine: bool,
     pub tokens: usize,

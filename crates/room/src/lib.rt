@@ -1,5 +1,6 @@
 // One room's record by value: what it owns, and how lending, passing, settling and taking a message change it.
 // Each method returns the changed record and, beside it, what is to be sent.
+#![tactic(auto)]
 ghost use Rattle.std.specs.Prelude.{◌≡◌};
 ghost use Rattle.room.specs.Record.{entry_at, set_entry, blank_room};
 ghost use Rattle.room.specs.Owned.{owned, has_no_entries};
@@ -19,7 +20,7 @@ pub const NOBODY: u8 = 255;
 pub const LAST_LINK: u32 = 4294967295;
 
 // What a room has lent to another: mode none means no entry.
-#[derive(Drop)]
+#[derive(Clone, Copy)]
 pub struct Entry {
     pub mode: u8,
     pub link: u32,
@@ -31,7 +32,7 @@ const NO_ENTRY: Entry = Entry {
     link: 0,
 };
 
-#[derive(Drop)]
+#[derive(Clone, Copy)]
 pub struct Room {
     pub held: u8,
     pub wanted: u8,
@@ -45,21 +46,21 @@ pub struct Room {
 }
 
 // What a changed record has to send to its lender.
-#[derive(Drop)]
+#[derive(Clone, Copy)]
 pub enum Send {
     Nothing,
     Reduce { to: u8, link: u32, mode: u8 },
 }
 
 // A record that has changed, and what it sends.
-#[derive(Drop)]
+#[derive(Clone, Copy)]
 pub struct Changed {
     pub room: Room,
     pub send: Send,
 }
 
 // A record that has lent, the loan's link number, and whether a number above the last was needed.
-#[derive(Drop)]
+#[derive(Clone, Copy)]
 pub struct Lent {
     pub room: Room,
     pub link: u32,
@@ -67,7 +68,7 @@ pub struct Lent {
 }
 
 // A record that has passed the token on, the owned mode that remains, and as for a loan.
-#[derive(Drop)]
+#[derive(Clone, Copy)]
 pub struct Passed {
     pub room: Room,
     pub rest: u8,

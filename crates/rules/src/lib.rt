@@ -1,4 +1,5 @@
 // The rules of document 01 as definitions, all of them in specs/.
+#![tactic(auto)]
 
 // The kinds of events.
 pub const ASK: u8 = 0;
@@ -10,7 +11,7 @@ pub const HANDBACK: u8 = 2;
 pub const DELIVER: u8 = 3;
 
 // An event given as numbers: ASK(room, mode), UPGRADE(room), HANDBACK(room), DELIVER(room, other).
-#[derive(Drop)]
+#[derive(Clone, Copy)]
 pub struct Event {
     pub kind: u8,
     pub room: u8,

@@ -14,7 +14,7 @@ const FOR_TWO_ROOMS: usize = 3;
 const FOR_A_ROOM: usize = 8;
 
 // A table, and the steps accepted on the way to it.
-#[derive(Drop)]
+#[derive(Clone, Copy)]
 pub struct Drained {
     pub table: Table,
     pub steps: usize,

@@ -1,4 +1,5 @@
 // The session: one line in, one line out. A table goes from line to line, and before the first accepted `n` it is the blank one.
+#![tactic(auto)]
 ghost use Rattle.std.specs.Prelude.{◌≡◌, not, eqb};
 ghost use Rattle.table.specs.Formed.{well_formed};
 ghost use Rattle.table.specs.Tables.{fresh_of};
@@ -10,7 +11,7 @@ use table::{Answer, Table, numbers};
 use writing::{LINE, write_line};
 
 // The table after a line, and the length of the answer.
-#[derive(Drop)]
+#[derive(Clone, Copy)]
 pub struct Turned {
     pub table: Table,
     pub length: usize,

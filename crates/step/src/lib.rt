@@ -1,5 +1,6 @@
 // The step: the first refusal that applies, or the table that the rules give. What is to be done is planned on the table as it came;
 // nothing is written until the step is known to be made.
+#![tactic(auto)]
 ghost use Rattle.std.specs.Prelude.{◌≡◌};
 ghost use Rattle.rules.specs.Step.{step_of};
 ghost use Rattle.table.specs.Formed.{well_formed};

@@ -1,4 +1,5 @@
 // The table by value: rooms, queue and messages; the fresh table; the search for the oldest message.
+#![tactic(auto)]
 ghost use Rattle.std.specs.Prelude.{◌≡◌};
 ghost use Rattle.table.specs.Tables.{empty_table, fresh_of};
 ghost use Rattle.table.specs.Oldest.{oldest_of};
@@ -15,7 +16,7 @@ pub const QUEUE: usize = 16;
 pub const WIRES: usize = 256;
 
 // What a wire carries. Nothing stands on a wire that is not in use.
-#[derive(Drop)]
+#[derive(Clone, Copy)]
 pub enum Message {
     Nothing,
     Request { origin: u8, mode: u8, idle: bool },
@@ -24,7 +25,7 @@ pub enum Message {
     Reduce { link: u32, mode: u8 },
 }
 
-#[derive(Drop)]
+#[derive(Clone, Copy)]
 pub struct Wire {
     pub from: u8,
     pub to: u8,
@@ -32,7 +33,7 @@ pub struct Wire {
 }
 
 // A room that waits in the queue, with its wanted mode.
-#[derive(Drop)]
+#[derive(Clone, Copy)]
 pub struct Queued {
     pub room: u8,
     pub mode: u8,
@@ -50,7 +51,7 @@ pub const NO_QUEUED: Queued = Queued {
     mode: modes::NONE,
 };
 
-#[derive(Drop)]
+#[derive(Clone, Copy)]
 pub struct Table {
     pub n: u8,
     pub rooms: [Room; ROOMS],
@@ -61,14 +62,14 @@ pub struct Table {
 }
 
 // What the search for a message answers.
-#[derive(Drop)]
+#[derive(Clone, Copy)]
 pub enum Found {
     At { place: usize, message: Message },
     Nothing,
 }
 
 // A number given back, and the table after it.
-#[derive(Drop)]
+#[derive(Clone, Copy)]
 pub struct Answer {
     pub number: u8,
     pub table: Table,

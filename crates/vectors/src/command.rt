@@ -8,7 +8,7 @@ const LARGE: usize = 100000000000;
 const INTENT: usize = LARGE + 1;
 
 // Part 0 of a command is its word, parts 1 to 5 its values a to e.
-#[derive(Drop)]
+#[derive(Clone, Copy)]
 pub struct Command {
     pub part: u8,
     pub word: u64,

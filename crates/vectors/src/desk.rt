@@ -12,7 +12,7 @@ const PLACES: usize = HAND + 1;
 // The tables kept, and the one at hand behind them; the wire that the next message is laid on, which is past the last one where it
 // is sent; the number that the last command gave back. That all tables are of one array makes the type half as large, and the proofs
 // of what has a desk with it.
-#[derive(Drop)]
+#[derive(Clone, Copy)]
 pub struct Desk {
     pub tables: [Table; PLACES],
     pub wire: usize,

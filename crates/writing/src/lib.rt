@@ -1,4 +1,5 @@
 // Writing an answer: the number, the token's room or `*`, the messages on the wires, and each room's held mode.
+#![tactic(auto)]
 ghost use Rattle.std.specs.Prelude.{◌≡◌, ◌+◌, ◌≤◌, min, ◌∷◌, map, length, take};
 ghost use Rattle.base.specs.Letters.{space};
 ghost use Rattle.room.specs.Limits.{room_limit};
@@ -16,7 +17,7 @@ use words::{Word, put};
 pub const LINE: usize = 64;
 
 // What is shown of a table: how many rooms there are, which has the token, the messages on the wires, and the held modes.
-#[derive(Drop)]
+#[derive(Clone, Copy)]
 pub struct View {
     pub rooms: usize,
     pub token: usize,
