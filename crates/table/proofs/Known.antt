@@ -1,7 +1,7 @@
 -- What owning a table tells of its value: the arrays are as long as their types say.
 use mathlib.Core.Path.{◌≡◌}
 use mathlib.Core.List.{List}
-use lib.ListN.{length, length-map}
+use lib.ListN.{length}
 use mir.Val.{Val}
 use denote.Laws.{Is}
 use Rattle.room.specs.Limits.{room_limit}
@@ -10,10 +10,10 @@ use Rattle.table.specs.Limits.{queue_limit, wire_limit}
 use Rattle.table.specs.contracts.Table.{the_row}
 
 pub rooms-long : (t : Table) {vs : List Val} → Is the_row t vs → length t.rooms ≡ room_limit
-rooms-long t g = simp length-map at g.1.1.1.0.1.0.1
+rooms-long t g = g.1.1.1.0.1.0.1
 
 pub queue_long : (t : Table) {vs : List Val} → Is the_row t vs → length t.queue ≡ queue_limit
-queue_long t g = simp length-map at g.1.1.1.1.0.1.0.1
+queue_long t g = g.1.1.1.1.0.1.0.1
 
 pub wires-long : (t : Table) {vs : List Val} → Is the_row t vs → length t.wires ≡ wire_limit
-wires-long t g = simp length-map at g.1.1.1.1.1.1.0.1.0.1
+wires-long t g = g.1.1.1.1.1.1.0.1.0.1

@@ -21,7 +21,7 @@ pub returns-in-1-to-255 : goal.returns-in-1-to-255
 returns-in-1-to-255 c =
     let r = c.args.self in
     let i = c.loop-i.i in
-    sym (all-fails (is_none r) room_limit i (omega arith) (ne_eqb _ _ c.in-1-to-255.not-0)) ∙ no-entries-all r
+    sym (all-fails (is_none r) room_limit i (omega arith) (ne_eqb _ _ (search rules))) ∙ no-entries-all r
 
 pub loop-i-preserved : goal.loop-i-preserved
 loop-i-preserved c =
