@@ -41,8 +41,8 @@ queue-free (q ∷ l) x w =
   where
     go : (a b c e : Bool) → serve_queue (with_queue (hold w q.mode) x) l ≡ serve_queue (hold w q.mode) l
         → serve_queue (with_queue (lend w q.room q.mode) x) l ≡ serve_queue (lend w q.room q.mode) l
-        → (if a then with_queue w (q ∷ l) else if not b then with_queue w (q ∷ l) else if c then serve_queue (with_queue (hold w q.mode) x) l else if e then serve_queue (with_queue (lend w q.room q.mode) x) l else pass (with_queue w l) q.room q.mode)
-        ≡ (if a then with_queue w (q ∷ l) else if not b then with_queue w (q ∷ l) else if c then serve_queue (hold w q.mode) l else if e then serve_queue (lend w q.room q.mode) l else pass (with_queue w l) q.room q.mode)
+        → (if a then with_queue w (q ∷ l) else (if not b then with_queue w (q ∷ l) else (if c then serve_queue (with_queue (hold w q.mode) x) l else (if e then serve_queue (with_queue (lend w q.room q.mode) x) l else pass (with_queue w l) q.room q.mode))))
+        ≡ (if a then with_queue w (q ∷ l) else (if not b then with_queue w (q ∷ l) else (if c then serve_queue (hold w q.mode) l else (if e then serve_queue (lend w q.room q.mode) l else pass (with_queue w l) q.room q.mode))))
     go true b c e p r = refl
     go false false c e p r = refl
     go false true true e p r = p
@@ -93,8 +93,8 @@ serve-chosen w q l =
     go (upgrade_waits w.room) (agrees (owned w.room) q.mode) (eqb q.room w.me) (can_lend (owned w.room) q.mode)
   where
     go : (a b c e : Bool)
-        → (if a then with_queue w (q ∷ l) else if not b then with_queue w (q ∷ l) else if c then serve_queue (hold w q.mode) l else if e then serve_queue (lend w q.room q.mode) l else pass (with_queue w l) q.room q.mode)
-        ≡ served (if a then choice.Stop else if not b then choice.Stop else if c then choice.Hold else if e then choice.Lend else choice.Pass) w q l
+        → (if a then with_queue w (q ∷ l) else (if not b then with_queue w (q ∷ l) else (if c then serve_queue (hold w q.mode) l else (if e then serve_queue (lend w q.room q.mode) l else pass (with_queue w l) q.room q.mode))))
+        ≡ served (if a then choice.Stop else (if not b then choice.Stop else (if c then choice.Hold else (if e then choice.Lend else choice.Pass)))) w q l
     go true b c e = refl
     go false false c e = refl
     go false true true e = refl

@@ -98,10 +98,10 @@ pub record Turns (d : Desk) (again : Bool) (e : Desk) : Type 0 where
 unfoldable pub choice_of : ℕ → Room → Queued → Choice
 choice_of me r q =
     if upgrade_waits r then choice.Stop
-    else if not (agrees (owned r) q.mode) then choice.Stop
-    else if eqb q.room me then choice.Hold
-    else if can_lend (owned r) q.mode then choice.Lend
-    else choice.Pass
+    else (if not (agrees (owned r) q.mode) then choice.Stop
+    else (if eqb q.room me then choice.Hold
+    else (if can_lend (owned r) q.mode then choice.Lend
+    else choice.Pass)))
 
 -- what was chosen for q is done on desk d, which it is off, and leaves desk e; again, whether another turn may follow
 unfoldable pub Carries : Desk → Choice → Queued → Desk → Bool → Type 0

@@ -1,14 +1,10 @@
 -- A choice by a test, as every definition writes it, and what a reader of one may use.
 use Rattle.std.specs.Prelude.{◌≡◌, refl, Bool, true, false}
+pub use Rattle.std.specs.Prelude.{if◌then◌else◌}
 use Rattle.std.proofs.Common.{sym, ◌∙◌}
 
-infixr 1 if◌then◌else◌
-abbrev pub if◌then◌else◌ {ℓ} : {A : Type ℓ} → Bool → A → A → A
-if true then a else b = a
-if false then a else b = b
-
 -- what holds of both answers, each under its test, holds of the choice
-pub by-test {ℓ κ} : {A : Type ℓ} (P : A → Type κ) (b : Bool) (x y : A) → (b ≡ true → P x) → (b ≡ false → P y) → P (if b then x else y)
+pub by-test {κ} : {A : Type 0} (P : A → Type κ) (b : Bool) (x y : A) → (b ≡ true → P x) → (b ≡ false → P y) → P (if b then x else y)
 by-test P true x y f g = f refl
 by-test P false x y f g = g refl
 

@@ -15,7 +15,7 @@ use Rattle.facts.specs.Names.{is_request}
 
 -- the REDUCEs that a loan of this mode can still cost its borrower: none 0, IR 1, others 2
 unfoldable pub level : ℕ → ℕ
-level m = if eqb m 0 then 0 else if eqb m IR then 1 else 2
+level m = if eqb m 0 then 0 else (if eqb m IR then 1 else 2)
 
 -- the messages that a message can become, itself among them
 unfoldable pub weight : Message → ℕ

@@ -1,5 +1,6 @@
 // The modes and their table: codes, which modes agree, which can lend which, which is stronger.
 #![tactic(auto)]
+
 ghost use Rattle.std.specs.Prelude.{◌≡◌};
 ghost use Rattle.modes.specs.Codes.{is_code};
 ghost use Rattle.modes.specs.Modes.{agrees, can_lend, is_stronger};

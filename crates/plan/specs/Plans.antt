@@ -47,9 +47,9 @@ taking t a b (found.At k m) = made_plan b k 1 (done_of (receive (work_at t b) a 
 unfoldable pub doing : Table → Event → Plan
 doing t e =
     if is_ask e then made_plan e.room t.count 0 (done_of (ask (work_at t e.room) e.mode))
-    else if is_upgrade e then made_plan e.room t.count 0 (done_of (upgrade (work_at t e.room)))
-    else if is_hand_back e then made_plan e.room t.count 0 (done_of (hand_back (work_at t e.room)))
-    else taking t e.room e.other (oldest_of t e.room e.other)
+    else (if is_upgrade e then made_plan e.room t.count 0 (done_of (upgrade (work_at t e.room)))
+    else (if is_hand_back e then made_plan e.room t.count 0 (done_of (hand_back (work_at t e.room)))
+    else taking t e.room e.other (oldest_of t e.room e.other)))
 
 -- the arrays have a place for each room and each message that is in use
 unfoldable pub placed : Table → Bool

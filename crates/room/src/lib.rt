@@ -1,6 +1,7 @@
 // One room's record by value: what it owns, and how lending, passing, settling and taking a message change it.
 // Each method returns the changed record and, beside it, what is to be sent.
 #![tactic(auto)]
+
 ghost use Rattle.std.specs.Prelude.{◌≡◌};
 ghost use Rattle.room.specs.Record.{entry_at, set_entry, blank_room};
 ghost use Rattle.room.specs.Owned.{owned, has_no_entries};

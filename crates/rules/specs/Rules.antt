@@ -50,10 +50,10 @@ unfoldable pub serve_queue : Work → List Queued → Work
 serve_queue w [] = with_queue w []
 serve_queue w (q ∷ rest) =
     if upgrade_waits w.room then with_queue w (q ∷ rest)
-    else if not (agrees (owned w.room) q.mode) then with_queue w (q ∷ rest)
-    else if eqb q.room w.me then serve_queue (hold w q.mode) rest
-    else if can_lend (owned w.room) q.mode then serve_queue (lend w q.room q.mode) rest
-    else pass (with_queue w rest) q.room q.mode
+    else (if not (agrees (owned w.room) q.mode) then with_queue w (q ∷ rest)
+    else (if eqb q.room w.me then serve_queue (hold w q.mode) rest
+    else (if can_lend (owned w.room) q.mode then serve_queue (lend w q.room q.mode) rest
+    else pass (with_queue w rest) q.room q.mode)))
 
 -- "Serve (with the token)"
 unfoldable pub serve : Work → Work
@@ -94,8 +94,8 @@ hand_back w = settle_or_serve (hold w none)
 unfoldable pub take_request : Work → ℕ → ℕ → Bool → Work
 take_request w o m idle =
     if w.room.token then serve (join w o m)
-    else if idle && not (eqb o w.me) && can_lend (owned w.room) m then settle (lend w o m)
-    else send w w.room.toward (msg.Request o m idle)
+    else (if idle && not (eqb o w.me) && can_lend (owned w.room) m then settle (lend w o m)
+    else send w w.room.toward (msg.Request o m idle))
 
 -- what the message taken from a does at the room
 unfoldable pub receive : Work → ℕ → Message → Work

@@ -35,8 +35,8 @@ after t kept w =
 unfoldable pub outcome : Table → List Wire → Work → Answer
 outcome t kept w =
     if w.worn then answer WORN t
-    else if ltb wire_limit (length (kept ++ w.sent)) then answer FULL t
-    else answer DONE (after t kept w)
+    else (if ltb wire_limit (length (kept ++ w.sent)) then answer FULL t
+    else answer DONE (after t kept w))
 
 -- "DELIVER(a, b) takes the oldest message from a to b"
 unfoldable pub delivered : Table → ℕ → ℕ → Found → Answer
@@ -46,9 +46,9 @@ delivered t a b (found.At k m) = outcome t (remove k (messages_of t)) (receive (
 unfoldable pub made : Table → Event → Answer
 made t e =
     if is_ask e then outcome t (messages_of t) (ask (work_at t e.room) e.mode)
-    else if is_upgrade e then outcome t (messages_of t) (upgrade (work_at t e.room))
-    else if is_hand_back e then outcome t (messages_of t) (hand_back (work_at t e.room))
-    else delivered t e.room e.other (oldest_of t e.room e.other)
+    else (if is_upgrade e then outcome t (messages_of t) (upgrade (work_at t e.room))
+    else (if is_hand_back e then outcome t (messages_of t) (hand_back (work_at t e.room))
+    else delivered t e.room e.other (oldest_of t e.room e.other)))
 
 unfoldable pub step_of : Table → Event → Answer
 step_of t e = if eqb (refusal t e) DONE then made t e else answer (refusal t e) t

@@ -47,10 +47,10 @@ module _ (c : Choices) where
   serve_queue_by w [] = with_queue w []
   serve_queue_by w (q ∷ rest) =
       if upgrade_waits w.room then with_queue w (q ∷ rest)
-      else if not (agrees (c.tested w.room) q.mode) then with_queue w (q ∷ rest)
-      else if eqb q.room w.me then serve_queue_by (hold w q.mode) rest
-      else if can_lend (c.tested w.room) q.mode then serve_queue_by (lend w q.room q.mode) rest
-      else pass_by (with_queue w rest) q.room q.mode
+      else (if not (agrees (c.tested w.room) q.mode) then with_queue w (q ∷ rest)
+      else (if eqb q.room w.me then serve_queue_by (hold w q.mode) rest
+      else (if can_lend (c.tested w.room) q.mode then serve_queue_by (lend w q.room q.mode) rest
+      else pass_by (with_queue w rest) q.room q.mode)))
 
   unfoldable pub serve_by : Work → Work
   serve_by w = serve_queue_by (upgraded w) w.queue
@@ -63,8 +63,8 @@ module _ (c : Choices) where
   ask_by w m =
       if w.room.token then
       (if is_empty w.queue && agrees m (c.tested w.room) then hold w m else join (want w m) w.me m)
-      else if can_lend (c.tested w.room) m then hold w m
-      else send (want w m) w.room.toward (msg.Request w.me m (eqb (owned w.room) 0))
+      else (if can_lend (c.tested w.room) m then hold w m
+      else send (want w m) w.room.toward (msg.Request w.me m (eqb (owned w.room) 0)))
 
   unfoldable pub hand_back_by : Work → Work
   hand_back_by w = settle_or_serve_by (hold w 0)
@@ -73,8 +73,8 @@ module _ (c : Choices) where
   unfoldable pub take_request_by : Work → ℕ → ℕ → Bool → Work
   take_request_by w o m idle =
       if w.room.token then serve_by (join w o m)
-      else if c.may_lend idle && not (eqb o w.me) && can_lend (c.tested w.room) m then settle (lend w o m)
-      else send w w.room.toward (msg.Request o m idle)
+      else (if c.may_lend idle && not (eqb o w.me) && can_lend (c.tested w.room) m then settle (lend w o m)
+      else send w w.room.toward (msg.Request o m idle))
 
   unfoldable pub receive_by : Work → ℕ → Message → Work
   receive_by w a msg.Nothing = w

@@ -48,8 +48,8 @@ module _ (h : Habits) where
   unfoldable pub take_request_by : Work → ℕ → ℕ → Bool → Work
   take_request_by w o m idle =
       if w.room.token then h.serves (h.joins w o m)
-      else if idle && not (eqb o w.me) && can_lend (owned w.room) m then settle (lend w o m)
-      else send w (h.onward w o) (msg.Request o m idle)
+      else (if idle && not (eqb o w.me) && can_lend (owned w.room) m then settle (lend w o m)
+      else send w (h.onward w o) (msg.Request o m idle))
 
   unfoldable pub receive_by : Work → ℕ → Message → Work
   receive_by w a msg.Nothing = w

@@ -66,7 +66,7 @@ serve-queue-grows (q ∷ l) w =
     gone = record { me = refl; queue = omega arith }
 
     go : (a b c e : Bool) → Grows (length l) w (serve_queue (hold w q.mode) l) → Grows (length l) w (serve_queue (lend w q.room q.mode) l)
-        → Grows (suc (length l)) w (if a then with_queue w (q ∷ l) else if not b then with_queue w (q ∷ l) else if c then serve_queue (hold w q.mode) l else if e then serve_queue (lend w q.room q.mode) l else pass (with_queue w l) q.room q.mode)
+        → Grows (suc (length l)) w (if a then with_queue w (q ∷ l) else (if not b then with_queue w (q ∷ l) else (if c then serve_queue (hold w q.mode) l else (if e then serve_queue (lend w q.room q.mode) l else pass (with_queue w l) q.room q.mode))))
     go true b c e x y = stop
     go false false c e x y = stop
     go false true true e x y = more (length l) (suc (length l)) w _ (omega arith) x

@@ -61,9 +61,9 @@ written_of t p =
 unfoldable pub ending_of : ℕ → Plan → ℕ
 ending_of count p =
     if not (eqb p.«number» DONE) then p.«number»
-    else if p.done.worn then WORN
-    else if ltb (wire_limit - (count - p.gap)) p.done.sent then FULL
-    else DONE
+    else (if p.done.worn then WORN
+    else (if ltb (wire_limit - (count - p.gap)) p.done.sent then FULL
+    else DONE))
 
 -- the answer that a plan on t ends in
 unfoldable pub ends_in : Table → Plan → Answer

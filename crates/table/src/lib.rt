@@ -1,5 +1,6 @@
 // The table by value: rooms, queue and messages; the fresh table; the search for the oldest message.
 #![tactic(auto)]
+
 ghost use Rattle.std.specs.Prelude.{◌≡◌};
 ghost use Rattle.table.specs.Tables.{empty_table, fresh_of};
 ghost use Rattle.table.specs.Oldest.{oldest_of};

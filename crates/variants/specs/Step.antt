@@ -32,9 +32,9 @@ module _ (r : Rules) where
   unfoldable pub made_by : Table → Event → Answer
   made_by t e =
       if is_ask e then outcome t (messages_of t) (r.asks (work_at t e.room) e.mode)
-      else if is_upgrade e then outcome t (messages_of t) (upgrade (work_at t e.room))
-      else if is_hand_back e then outcome t (messages_of t) (r.hands_back (work_at t e.room))
-      else delivered_by t e.room e.other (oldest_of t e.room e.other)
+      else (if is_upgrade e then outcome t (messages_of t) (upgrade (work_at t e.room))
+      else (if is_hand_back e then outcome t (messages_of t) (r.hands_back (work_at t e.room))
+      else delivered_by t e.room e.other (oldest_of t e.room e.other)))
 
   unfoldable pub step_by : Table → Event → Answer
   step_by t e =

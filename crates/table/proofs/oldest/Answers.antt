@@ -35,10 +35,10 @@ loop-i-preserved c =
     let long = wires-long s.args.t s.well_formed.0 in (
       omega arith,
       elim c.if-w-a.branch [
-        then-w-a+else-w-b w ↦
-          search-to s.args.a s.args.b s.args.t.wires s.args.t.count k.i (omega arith) (omega arith) w.if-w-a.true w.if-w-b.false ∙ k.invariant.1
+        | then-w-a+else-w-b w ↦
+            search-to s.args.a s.args.b s.args.t.wires s.args.t.count k.i (omega arith) (omega arith) w.if-w-a.true w.if-w-b.false ∙ k.invariant.1
         | else-w-a w ↦
-          search-from s.args.a s.args.b s.args.t.wires s.args.t.count k.i (omega arith) (omega arith) w.if-w-a.false ∙ k.invariant.1
+            search-from s.args.a s.args.b s.args.t.wires s.args.t.count k.i (omega arith) (omega arith) w.if-w-a.false ∙ k.invariant.1
       ],
     )
 
