@@ -10,7 +10,8 @@ use lib.Dec.{eqb}
 use lib.ListN.{length, get_or}
 use lib.Seq.{slice, slice_empty, slice-cons}
 use borrow.Author.Tests.{eq-eqb, ne_eqb, not-true, not-false}
-use Rattle.base.specs.Choice.{if◌then◌else◌, by-test}
+use Rattle.std.specs.Prelude.{if◌then◌else◌}
+use Rattle.base.specs.Choice.{by-test}
 use Rattle.base.specs.Sums.{one}
 use Rattle.modes.specs.Modes.{agrees, can_lend}
 use Rattle.room.specs.declared.Room.{Room}

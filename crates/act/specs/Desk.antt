@@ -1,7 +1,6 @@
 -- How the code holds a room's work: lists in arrays with counts.
-use Rattle.std.specs.Prelude.{ℕ, ◌+◌, ◌-◌, ◌≤◌, ◌≡◌, Bool, true, false, not, List, take, eqb}
+use Rattle.std.specs.Prelude.{ℕ, ◌+◌, ◌-◌, ◌≤◌, ◌≡◌, Bool, true, false, not, List, take, eqb, if◌then◌else◌}
 use Rattle.std.proofs.Math.Seq.{slice}
-use Rattle.base.specs.Choice.{if◌then◌else◌}
 use Rattle.base.specs.Sums.{one}
 use Rattle.table.specs.Limits.{queue_limit}
 use Rattle.base.specs.Arrays.{padded}

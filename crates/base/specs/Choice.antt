@@ -1,6 +1,5 @@
 -- A choice by a test, as every definition writes it, and what a reader of one may use.
-use Rattle.std.specs.Prelude.{◌≡◌, refl, Bool, true, false}
-pub use Rattle.std.specs.Prelude.{if◌then◌else◌}
+use Rattle.std.specs.Prelude.{if◌then◌else◌, ◌≡◌, refl, Bool, true, false}
 use Rattle.std.proofs.Common.{sym, ◌∙◌}
 
 -- what holds of both answers, each under its test, holds of the choice

@@ -1,7 +1,7 @@
 -- Numbers that rank things, with one of them put at the bottom.
-use Rattle.std.specs.Prelude.{◌≡◌, refl, ◌≢◌, ◌⊎◌, ℕ, ◌+◌, ◌≤◌, ◌<◌, eqb}
+use Rattle.std.specs.Prelude.{◌≡◌, refl, ◌≢◌, ◌⊎◌, ℕ, ◌+◌, ◌≤◌, ◌<◌, eqb, if◌then◌else◌}
 use Rattle.std.proofs.Common.{inl, inr, arith, eq-eqb, ne_eqb}
-use Rattle.base.specs.Choice.{if◌then◌else◌, by-test}
+use Rattle.base.specs.Choice.{by-test}
 use Rattle.base.specs.Sums.{same?}
 
 -- r gets 0, everyone else one more

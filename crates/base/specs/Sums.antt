@@ -1,8 +1,8 @@
 -- Sums and counts over the numbers below n: "exactly one" and "at most n" are said by them, once over n.
-use Rattle.std.specs.Prelude.{◌≡◌, refl, ◌≢◌, ◌⊎◌, Bool, true, false, ℕ, zero, suc, ◌+◌, ◌*◌, ◌≤◌, ◌<◌, eqb, ltb}
+use Rattle.std.specs.Prelude.{◌≡◌, refl, ◌≢◌, ◌⊎◌, Bool, true, false, ℕ, zero, suc, ◌+◌, ◌*◌, ◌≤◌, ◌<◌, eqb, ltb, if◌then◌else◌}
 use Rattle.std.proofs.Common.{sym, ◌∙◌, ap, inl, inr, zero-le, not-suc-le-zero, add-one, arith, eqb-true, ltb-true, ltb-false, eq-eqb, ne_eqb}
 use Rattle.std.proofs.lemmas.Bool.{eqb-false}
-use Rattle.base.specs.Choice.{if◌then◌else◌, by-test}
+use Rattle.base.specs.Choice.{by-test}
 
 -- two numbers are equal or not, and one is below the other or not
 pub same? : (a b : ℕ) → (a ≡ b) ⊎ (a ≢ b)

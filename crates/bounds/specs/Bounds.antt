@@ -1,6 +1,5 @@
 -- MESSAGES and COUNTERS: what a table can still send, and how far its counters can still go.
-use Rattle.std.specs.Prelude.{ℕ, ◌+◌, ◌*◌, ◌≤◌, ◌<◌, List, eqb, length}
-use Rattle.base.specs.Choice.{if◌then◌else◌}
+use Rattle.std.specs.Prelude.{ℕ, ◌+◌, ◌*◌, ◌≤◌, ◌<◌, List, eqb, length, if◌then◌else◌}
 use Rattle.base.specs.Sums.{sum}
 use Rattle.base.specs.Lists.{total, count}
 use Rattle.modes.specs.Codes.{IR}

@@ -1,6 +1,5 @@
 -- Demand 3, second half: what is said of deliveries and hand-backs alone.
-use Rattle.std.specs.Prelude.{ℕ, zero, suc, ◌+◌, ◌*◌, ◌≤◌, ◌<◌, ◌≡◌, ◌≢◌, ◌⊎◌, Bool, true, false, ◌||◌, List, [], ◌∷◌, eqb}
-use Rattle.base.specs.Choice.{if◌then◌else◌}
+use Rattle.std.specs.Prelude.{ℕ, zero, suc, ◌+◌, ◌*◌, ◌≤◌, ◌<◌, ◌≡◌, ◌≢◌, ◌⊎◌, Bool, true, false, ◌||◌, List, [], ◌∷◌, eqb, if◌then◌else◌}
 use Rattle.base.specs.Sums.{one}
 use Rattle.table.specs.declared.Table.{Table}
 use Rattle.table.specs.Numbers.{DONE}

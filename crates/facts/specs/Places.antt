@@ -1,10 +1,10 @@
 -- An array of which the first places are in use: the test of all its places, as facts of the list in use and of the filler.
-use Rattle.std.specs.Prelude.{◌≡◌, Bool, true, List, ℕ, ◌≤◌, ◌<◌, get_or, take}
+use Rattle.std.specs.Prelude.{◌≡◌, Bool, true, List, ℕ, ◌≤◌, ◌<◌, get_or, take, if◌then◌else◌}
 use Rattle.std.proofs.Common.{◌∙◌, ap, arith, get_or-take, ltb-true, ltb-false, lt-ltb, le-ltb}
 use Rattle.std.proofs.Math.Dec.{ltb}
 use Rattle.std.proofs.Math.ListN.{length}
 use Rattle.std.proofs.Math.Seq.{length-take-le}
-use Rattle.base.specs.Choice.{if◌then◌else◌, by-test}
+use Rattle.base.specs.Choice.{by-test}
 use Rattle.base.specs.Below.{all_below, all-at, all_of}
 use Rattle.base.specs.Lists.{Mem, mem-at, mem-place}
 use Rattle.base.specs.Arrays.{padded, padded-high, padded-of}

@@ -1,10 +1,10 @@
 -- The test of well-formedness and the facts of it are the same.
-use Rattle.std.specs.Prelude.{◌≡◌, Bool, ℕ, ◌≤◌, ◌<◌}
+use Rattle.std.specs.Prelude.{◌≡◌, Bool, ℕ, ◌≤◌, ◌<◌, if◌then◌else◌}
 use Rattle.std.proofs.Math.Bool.{true}
 use Rattle.std.proofs.Common.{arith}
 use Rattle.std.proofs.Math.Dec.{ltb, eqb}
 use borrow.Author.Tests.{leb-true, ltb-true, ltb-false, eqb-true, le-leb, lt-ltb, le-ltb, eq-eqb}
-use Rattle.base.specs.Choice.{if◌then◌else◌, by-test}
+use Rattle.base.specs.Choice.{by-test}
 use Rattle.base.specs.Tests.{and_left, and_right, ◌also◌}
 use Rattle.base.specs.Below.{all-at, all_of}
 use Rattle.base.specs.Sums.{one}

@@ -6,7 +6,8 @@ use native.Mathlib.Omega.{arith}
 use lib.ListN.{length, get_or}
 use lib.Dec.{ltb}
 use borrow.Author.Tests.{le-ltb, not-true, not-false}
-use Rattle.base.specs.Choice.{if◌then◌else◌, split}
+use Rattle.std.specs.Prelude.{if◌then◌else◌}
+use Rattle.base.specs.Choice.{split}
 use Rattle.base.specs.Tests.{clash}
 use Rattle.base.specs.Below.{all_below, all-at}
 use Rattle.base.specs.Sums.{one, count_below}

@@ -7,7 +7,7 @@ use native.Mathlib.Omega.{arith}
 use lib.ListN.{length, get_or, take, length-take}
 use lib.Dec.{ltb, leb, eqb}
 use borrow.Author.Tests.{leb-true, le-ltb, eq-eqb, ne_eqb, not-true, not-false}
-use Rattle.base.specs.Choice.{if◌then◌else◌}
+use Rattle.std.specs.Prelude.{if◌then◌else◌}
 use Rattle.base.specs.Tests.{and_left, and_right}
 use Rattle.base.specs.Below.{all_below, all_more, all-fails}
 use Rattle.base.specs.Sums.{one, one-le, count_below, count-below-le}

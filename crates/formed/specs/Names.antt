@@ -1,6 +1,5 @@
 -- What the queue and the messages name, and how often.
-use Rattle.std.specs.Prelude.{ℕ, Bool, true, false, List, get_or, take, replicate, ltb, eqb}
-use Rattle.base.specs.Choice.{if◌then◌else◌}
+use Rattle.std.specs.Prelude.{ℕ, Bool, true, false, List, get_or, take, replicate, ltb, eqb, if◌then◌else◌}
 use Rattle.base.specs.Below.{all_below}
 use Rattle.base.specs.Sums.{one}
 use Rattle.base.specs.Lists.{count}

@@ -1,6 +1,5 @@
 -- A place of the queue and of the wires.
-use Rattle.std.specs.Prelude.{ℕ, Bool, List}
-use Rattle.base.specs.Choice.{if◌then◌else◌}
+use Rattle.std.specs.Prelude.{ℕ, Bool, List, if◌then◌else◌}
 use Rattle.table.specs.declared.Queued.{Queued}
 use Rattle.table.specs.declared.Wire.{Wire}
 use Rattle.table.specs.Formed.{queued_fine, is_blank_queued, wire_fine, is_blank_wire}

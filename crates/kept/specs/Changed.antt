@@ -1,8 +1,7 @@
 -- Rooms of which one has a changed record: in a step only one room acts.
-use Rattle.std.specs.Prelude.{◌≡◌, refl, ◌≢◌, ◌⊎◌, ℕ, eqb}
+use Rattle.std.specs.Prelude.{◌≡◌, refl, ◌≢◌, ◌⊎◌, ℕ, eqb, if◌then◌else◌}
 use Rattle.std.proofs.Common.{sym, ◌∙◌, ap, inl, inr, eq-eqb, ne_eqb}
 use Rattle.std.proofs.Math.Path.{fun_ext}
-use Rattle.base.specs.Choice.{if◌then◌else◌}
 use Rattle.base.specs.Sums.{same?}
 use Rattle.room.specs.declared.Room.{Room}
 

@@ -1,6 +1,5 @@
 -- A loan as its lender has it and as its borrower has it, once what is on the wires between them has arrived.
-use Rattle.std.specs.Prelude.{◌≡◌, ◌≢◌, ◌&&◌, List, ℕ, ◌<◌, eqb}
-use Rattle.base.specs.Choice.{if◌then◌else◌}
+use Rattle.std.specs.Prelude.{◌≡◌, ◌≢◌, ◌&&◌, List, ℕ, ◌<◌, eqb, if◌then◌else◌}
 use Rattle.base.specs.Folds.{folds}
 use Rattle.modes.specs.Modes.{is_stronger}
 use Rattle.room.specs.declared.Room.{Room}

@@ -1,6 +1,5 @@
 -- The measure: what the messages under way, the names and the rooms can still cost in deliveries and hand-backs.
-use Rattle.std.specs.Prelude.{ℕ, ◌+◌, ◌*◌, Bool, true, false, ◌||◌, List, [], ◌∷◌, ltb, length}
-use Rattle.base.specs.Choice.{if◌then◌else◌}
+use Rattle.std.specs.Prelude.{ℕ, ◌+◌, ◌*◌, Bool, true, false, ◌||◌, List, [], ◌∷◌, ltb, length, if◌then◌else◌}
 use Rattle.base.specs.Sums.{one, sum}
 use Rattle.base.specs.Lists.{count}
 use Rattle.room.specs.declared.Room.{Room}

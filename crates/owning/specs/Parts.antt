@@ -1,6 +1,5 @@
 -- The modes of a room: its entries, and past them the mode that it holds.
-use Rattle.std.specs.Prelude.{ℕ, ltb}
-use Rattle.base.specs.Choice.{if◌then◌else◌}
+use Rattle.std.specs.Prelude.{ℕ, ltb, if◌then◌else◌}
 use Rattle.room.specs.declared.Room.{Room}
 use Rattle.room.specs.Limits.{room_limit}
 use Rattle.room.specs.Record.{entry_at}

@@ -1,6 +1,5 @@
 -- A step as it is planned: a refusal, or what a room has done and which message it took.
-use Rattle.std.specs.Prelude.{ℕ, ◌≤◌, ◌<◌, ◌≡◌, Bool, false, ◌&&◌, List, replicate, leb, eqb}
-use Rattle.base.specs.Choice.{if◌then◌else◌}
+use Rattle.std.specs.Prelude.{ℕ, ◌≤◌, ◌<◌, ◌≡◌, Bool, false, ◌&&◌, List, replicate, leb, eqb, if◌then◌else◌}
 use Rattle.room.specs.declared.Room.{Room}
 use Rattle.room.specs.Limits.{room_limit}
 use Rattle.room.specs.Record.{blank_room}

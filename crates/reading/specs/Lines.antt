@@ -1,7 +1,6 @@
 -- "It reads lines .. : `n 3`, `a 1 R`, `u 1`, `h 1`, `d 0 1` (fresh, ask, upgrade, hand back, deliver; one space; numbers of one or two
 -- digits; a mode is one of IR, R, U, IW, W)." A line is the list of its bytes before the line feed.
-use Rattle.std.specs.Prelude.{ℕ, ◌+◌, ◌-◌, ◌*◌, List, [], ◌∷◌, ltb, eqb}
-use Rattle.base.specs.Choice.{if◌then◌else◌}
+use Rattle.std.specs.Prelude.{ℕ, ◌+◌, ◌-◌, ◌*◌, List, [], ◌∷◌, ltb, eqb, if◌then◌else◌}
 use Rattle.modes.specs.Codes.{none, IR, R, U, IW, W}
 use Rattle.rules.specs.declared.Event.{Event}
 use Rattle.rules.specs.Events.{ASK, UPGRADE, HANDBACK, DELIVER}

@@ -1,6 +1,5 @@
 -- A place of the array of rooms.
-use Rattle.std.specs.Prelude.{ℕ, Bool, ltb}
-use Rattle.base.specs.Choice.{if◌then◌else◌}
+use Rattle.std.specs.Prelude.{ℕ, Bool, ltb, if◌then◌else◌}
 use Rattle.room.specs.declared.Room.{Room}
 use Rattle.table.specs.Formed.{room_fine, is_blank_room}
 

@@ -1,6 +1,5 @@
 -- What is seen of the rooms: all that the queue and the messages are tested against.
-use Rattle.std.specs.Prelude.{ℕ, true, false, List, get_or, replicate}
-use Rattle.base.specs.Choice.{if◌then◌else◌}
+use Rattle.std.specs.Prelude.{ℕ, true, false, List, get_or, replicate, if◌then◌else◌}
 use Rattle.base.specs.Below.{all_below}
 use Rattle.base.specs.Sums.{count_below}
 use Rattle.room.specs.declared.Room.{Room}

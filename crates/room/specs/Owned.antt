@@ -1,6 +1,5 @@
 -- "A room's owned mode is the strongest of its held mode and its entries."
-use Rattle.std.specs.Prelude.{ℕ, zero, suc, Bool, eqb}
-use Rattle.base.specs.Choice.{if◌then◌else◌}
+use Rattle.std.specs.Prelude.{ℕ, zero, suc, Bool, eqb, if◌then◌else◌}
 use Rattle.modes.specs.Codes.{none}
 use Rattle.base.specs.Below.{all_below}
 use Rattle.modes.specs.Modes.{is_stronger}

@@ -1,6 +1,5 @@
 -- A room's record: its parts, and the record with one part changed.
-use Rattle.std.specs.Prelude.{ℕ, Bool, false, [], get_or, set, replicate, eqb}
-use Rattle.base.specs.Choice.{if◌then◌else◌}
+use Rattle.std.specs.Prelude.{ℕ, Bool, false, [], get_or, set, replicate, eqb, if◌then◌else◌}
 use Rattle.modes.specs.Codes.{none}
 use Rattle.room.specs.declared.Room.{Room}
 use Rattle.room.specs.declared.Entry.{Entry}

@@ -1,6 +1,5 @@
 -- How one room's record changes when it lends, passes, settles, or takes a message, and what it sends.
-use Rattle.std.specs.Prelude.{ℕ, ◌+◌, Bool, true, false, ◌||◌, ◌&&◌, ltb, leb, eqb}
-use Rattle.base.specs.Choice.{if◌then◌else◌}
+use Rattle.std.specs.Prelude.{ℕ, ◌+◌, Bool, true, false, ◌||◌, ◌&&◌, ltb, leb, eqb, if◌then◌else◌}
 use Rattle.modes.specs.Codes.{none}
 use Rattle.modes.specs.Modes.{is_stronger}
 use Rattle.room.specs.declared.Room.{Room}

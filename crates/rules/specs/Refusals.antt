@@ -1,6 +1,5 @@
 -- "Numbers given back, in the order they are tried", as far as they are known before the step is made.
-use Rattle.std.specs.Prelude.{ℕ, Bool, true, false, not, ◌&&◌, ◌||◌, List, [], ◌∷◌, ltb, leb, eqb}
-use Rattle.base.specs.Choice.{if◌then◌else◌}
+use Rattle.std.specs.Prelude.{ℕ, Bool, true, false, not, ◌&&◌, ◌||◌, List, [], ◌∷◌, ltb, leb, eqb, if◌then◌else◌}
 use Rattle.base.specs.Below.{all_below}
 use Rattle.modes.specs.Codes.{none, U}
 use Rattle.table.specs.declared.Table.{Table}

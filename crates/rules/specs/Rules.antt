@@ -1,6 +1,5 @@
 -- "Steps": lend, settle, serve, pass; ASK, UPGRADE, HANDBACK and what each message does, in document 01's words.
-use Rattle.std.specs.Prelude.{ℕ, Bool, true, false, not, ◌&&◌, List, [], ◌∷◌, eqb}
-use Rattle.base.specs.Choice.{if◌then◌else◌}
+use Rattle.std.specs.Prelude.{ℕ, Bool, true, false, not, ◌&&◌, List, [], ◌∷◌, eqb, if◌then◌else◌}
 use Rattle.modes.specs.Codes.{none, U, W}
 use Rattle.modes.specs.Modes.{agrees, can_lend}
 use Rattle.room.specs.declared.Room.{Room}

@@ -1,6 +1,5 @@
 -- The step: the first refusal that applies, or what the rules make of the table.
-use Rattle.std.specs.Prelude.{ℕ, List, [], ◌∷◌, ◌++◌, length, set, ltb, eqb}
-use Rattle.base.specs.Choice.{if◌then◌else◌}
+use Rattle.std.specs.Prelude.{ℕ, List, [], ◌∷◌, ◌++◌, length, set, ltb, eqb, if◌then◌else◌}
 use Rattle.base.specs.Lists.{remove}
 use Rattle.base.specs.Arrays.{padded}
 use Rattle.table.specs.declared.Table.{Table}

@@ -6,7 +6,7 @@ use Prim.Native.Nat.{◌*◌, ◌≤◌}
 use native.Mathlib.Omega.{arith}
 use native.Mathlib.Nat.{mul-le-mul}
 use borrow.Author.Tests.{leb-true, ne_eqb, not-true, not-false}
-use Rattle.base.specs.Choice.{if◌then◌else◌}
+use Rattle.std.specs.Prelude.{if◌then◌else◌}
 use Rattle.base.specs.Tests.{and_left, and_right}
 use Rattle.table.specs.declared.Table.{Table}
 use Rattle.table.specs.Formed.{sizes_fit, well_formed}

@@ -1,6 +1,6 @@
 -- A drain of deliveries and hand-backs on any table: what is given back, and how many of them there can be.
-use Rattle.std.specs.Prelude.{ℕ, ◌≤◌, ◌≡◌, false, List, eqb}
-use Rattle.base.specs.Choice.{if◌then◌else◌, decided}
+use Rattle.std.specs.Prelude.{ℕ, ◌≤◌, ◌≡◌, false, List, eqb, if◌then◌else◌}
+use Rattle.base.specs.Choice.{decided}
 use Rattle.base.specs.Sums.{one}
 use Rattle.table.specs.declared.Table.{Table}
 use Rattle.table.specs.Numbers.{DONE}

@@ -1,6 +1,6 @@
 -- A run of events from a fresh table: what is given back, and what holds of the table.
-use Rattle.std.specs.Prelude.{ℕ, ◌+◌, ◌≤◌, ◌<◌, ◌≡◌, ◌≢◌, true, List, [], ◌∷◌, eqb, get_or}
-use Rattle.base.specs.Choice.{if◌then◌else◌, decided}
+use Rattle.std.specs.Prelude.{ℕ, ◌+◌, ◌≤◌, ◌<◌, ◌≡◌, ◌≢◌, true, List, [], ◌∷◌, eqb, get_or, if◌then◌else◌}
+use Rattle.base.specs.Choice.{decided}
 use Rattle.room.specs.Limits.{room_limit}
 use Rattle.table.specs.declared.Table.{Table}
 use Rattle.table.specs.declared.Answer.{Answer}

@@ -1,6 +1,6 @@
 -- One line, and what comes of it.
-use Rattle.std.specs.Prelude.{ℕ, ◌≡◌, Bool, List, length, ltb, eqb}
-use Rattle.base.specs.Choice.{if◌then◌else◌, decided}
+use Rattle.std.specs.Prelude.{ℕ, ◌≡◌, Bool, List, length, ltb, eqb, if◌then◌else◌}
+use Rattle.base.specs.Choice.{decided}
 use Rattle.table.specs.declared.Table.{Table}
 use Rattle.table.specs.declared.Answer.{Answer}
 use Rattle.table.specs.Numbers.{DONE, TABLE, EVENT}

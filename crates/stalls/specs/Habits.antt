@@ -1,6 +1,5 @@
 -- The rules with three places open: what joining, serving and sending on do.
-use Rattle.std.specs.Prelude.{ℕ, ◌≡◌, refl, Bool, not, ◌&&◌, eqb}
-use Rattle.base.specs.Choice.{if◌then◌else◌}
+use Rattle.std.specs.Prelude.{ℕ, ◌≡◌, refl, Bool, not, ◌&&◌, eqb, if◌then◌else◌}
 use Rattle.modes.specs.Modes.{can_lend}
 use Rattle.room.specs.Owned.{owned}
 use Rattle.room.specs.Rules.{granted, tokened, reduced}

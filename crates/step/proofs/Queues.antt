@@ -6,7 +6,8 @@ use Prim.Native.Nat.{ℕ, suc, ◌+◌, ◌≤◌}
 use native.Mathlib.Omega.{arith}
 use lib.Dec.{eqb}
 use lib.ListN.{length, length-append}
-use Rattle.base.specs.Choice.{if◌then◌else◌, by-test}
+use Rattle.std.specs.Prelude.{if◌then◌else◌}
+use Rattle.base.specs.Choice.{by-test}
 use Rattle.base.specs.Sums.{one}
 use Rattle.modes.specs.Codes.{W}
 use Rattle.modes.specs.Modes.{agrees, can_lend}

@@ -1,6 +1,5 @@
 -- What step_untested answers, whatever it is told: how a plan ends, and the table with the plan written into it.
-use Rattle.std.specs.Prelude.{ℕ, ◌+◌, ◌-◌, ◌<◌, ◌≤◌, ◌≡◌, Bool, not, ◌&&◌, List, ◌++◌, length, set, take, drop, ltb, eqb}
-use Rattle.base.specs.Choice.{if◌then◌else◌}
+use Rattle.std.specs.Prelude.{ℕ, ◌+◌, ◌-◌, ◌<◌, ◌≤◌, ◌≡◌, Bool, not, ◌&&◌, List, ◌++◌, length, set, take, drop, ltb, eqb, if◌then◌else◌}
 use Rattle.base.specs.Arrays.{padded}
 use Rattle.room.specs.Limits.{room_limit}
 use Rattle.table.specs.declared.Table.{Table}

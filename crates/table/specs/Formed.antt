@@ -1,7 +1,6 @@
 -- "Well formed": each clause of document 01 by the part that it is about.
-use Rattle.std.specs.Prelude.{ℕ, ◌+◌, Bool, true, false, not, ◌&&◌, ◌||◌, List, ltb, leb, eqb, get_or}
+use Rattle.std.specs.Prelude.{ℕ, ◌+◌, Bool, true, false, not, ◌&&◌, ◌||◌, List, ltb, leb, eqb, get_or, if◌then◌else◌}
 use Rattle.std.specs.Bool.{beq}
-use Rattle.base.specs.Choice.{if◌then◌else◌}
 use Rattle.base.specs.Tests.{◌implies◌}
 use Rattle.base.specs.Below.{all_below}
 use Rattle.base.specs.Sums.{one, count_below}

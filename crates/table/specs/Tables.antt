@@ -1,6 +1,5 @@
 -- "The table": its rooms, its queue and its messages, and the fresh table.
-use Rattle.std.specs.Prelude.{ℕ, true, ◌&&◌, List, get_or, set, replicate, take, leb}
-use Rattle.base.specs.Choice.{if◌then◌else◌}
+use Rattle.std.specs.Prelude.{ℕ, true, ◌&&◌, List, get_or, set, replicate, take, leb, if◌then◌else◌}
 use Rattle.modes.specs.Codes.{none}
 use Rattle.room.specs.declared.Room.{Room}
 use Rattle.room.specs.Limits.{room_limit}

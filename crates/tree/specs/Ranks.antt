@@ -1,7 +1,6 @@
 -- Two ways to rank anew: a room becomes the lowest of all, or a room without children is put above another.
-use Rattle.std.specs.Prelude.{◌≡◌, refl, ◌⊎◌, ◌≢◌, true, List, ℕ, suc, ◌<◌, eqb}
+use Rattle.std.specs.Prelude.{◌≡◌, refl, ◌⊎◌, ◌≢◌, true, List, ℕ, suc, ◌<◌, eqb, if◌then◌else◌}
 use Rattle.std.proofs.Common.{◌∙◌, ap, inl, inr, arith, eq-eqb, ne_eqb}
-use Rattle.base.specs.Choice.{if◌then◌else◌}
 use Rattle.base.specs.Lists.{Mem}
 use Rattle.base.specs.Ranks.{rerooted, rerooted-root, rerooted-falls}
 use Rattle.room.specs.declared.Room.{Room}

@@ -1,7 +1,6 @@
 -- The step with its rules left open, and without the test of well-formedness. With document 01's rules no table that events lead to from a
 -- fresh one fails it; with other rules a table may fail it, and is worked on all the same.
-use Rattle.std.specs.Prelude.{ℕ, true, List, [], ◌∷◌, eqb}
-use Rattle.base.specs.Choice.{if◌then◌else◌}
+use Rattle.std.specs.Prelude.{ℕ, true, List, [], ◌∷◌, eqb, if◌then◌else◌}
 use Rattle.base.specs.Lists.{remove}
 use Rattle.table.specs.declared.Table.{Table}
 use Rattle.table.specs.declared.Answer.{Answer}

@@ -11,7 +11,8 @@ use lib.Seq.{take-suc, length-take-le, take_all}
 use mir.Val.{Val}
 use denote.Laws.{Is}
 use borrow.Author.Tests.{eq-eqb, ne_eqb, eqb-true, eqb-false, leb-true, leb-false}
-use Rattle.base.specs.Choice.{if◌then◌else◌, split}
+use Rattle.std.specs.Prelude.{if◌then◌else◌}
+use Rattle.base.specs.Choice.{split}
 use Rattle.base.specs.Arrays.{padded, padded-snoc}
 use Rattle.room.specs.declared.Room.{Room}
 use Rattle.room.specs.Limits.{room_limit}
