@@ -1,5 +1,1 @@
 pub mod Bounds
-pub mod Weights
-pub mod Messages
-pub mod Counters
-pub mod Limits

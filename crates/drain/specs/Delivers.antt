@@ -28,13 +28,13 @@ use Rattle.kept.specs.Changed.{changed, changed-same, changed-elsewhere}
 use Rattle.kept.specs.Moment.{Right, empty}
 use Rattle.kept.specs.Acts.{At, Whole, now, only}
 use Rattle.kept.specs.Delivers.{reduced-kept}
-use Rattle.ledger.specs.Takes.{Oldest}
+use Rattle.ledger.proofs.Takes.{Oldest}
 use Rattle.base.specs.Ranks.{rerooted}
 use Rattle.measure.specs.Way.{Leads}
 use Rattle.measure.specs.Measure.{potential}
 use Rattle.measure.specs.Heights.{leads-request-taken, leads-request-sent, leads-lend, leads-grant, leads-token, leads-reduce}
-use Rattle.measure.specs.Moves.{potential-joined, falls-request-taken, falls-sent-on}
-use Rattle.measure.specs.Falls.{not-more-lend, falls-grant, falls-token, falls-reduce}
+use Rattle.measure.proofs.Moves.{potential-joined, falls-request-taken, falls-sent-on}
+use Rattle.measure.proofs.Falls.{not-more-lend, falls-grant, falls-token, falls-reduce}
 use Rattle.safe.specs.Invariant.{Invariant}
 use Rattle.safe.specs.Heard.{taking, lent-owing}
 use Rattle.safe.specs.Delivers.{sending, left-work, reduced-owing}

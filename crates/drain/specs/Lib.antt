@@ -2,15 +2,4 @@ pub mod Drains
 pub mod Weighs
 pub mod Lower
 pub mod Delivers
-pub mod Steps
-pub mod Ways
-pub mod Pots
-pub mod Quiet
-pub mod Rest
-pub mod Refused
-pub mod Further
-pub mod Ends
-pub mod Goes
 pub mod Gets
-pub mod Given
-pub mod Always

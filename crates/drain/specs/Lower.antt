@@ -18,11 +18,11 @@ use Rattle.facts.specs.Wires.{wire}
 use Rattle.facts.specs.Cases.{settled-either}
 use Rattle.kept.specs.Changed.{changed, changed-same, changed-elsewhere}
 use Rattle.kept.specs.Acts.{now}
-use Rattle.owning.specs.Exact.{settle-weak}
+use Rattle.owning.proofs.Exact.{settle-weak}
 use Rattle.measure.specs.Way.{Leads}
 use Rattle.measure.specs.Measure.{potential}
 use Rattle.measure.specs.Heights.{leads-modes, leads-settle}
-use Rattle.measure.specs.Falls.{falls-handed, not-more-settle}
+use Rattle.measure.proofs.Falls.{falls-handed, not-more-settle}
 use Rattle.safe.specs.Done.{Done}
 use Rattle.safe.specs.Settle.{Owing}
 use Rattle.safe.specs.HandBacks.{handed-owing}

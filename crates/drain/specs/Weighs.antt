@@ -22,8 +22,8 @@ use Rattle.kept.specs.Acts.{now}
 use Rattle.measure.specs.Way.{Leads}
 use Rattle.measure.specs.Measure.{potential}
 use Rattle.measure.specs.Heights.{leads-modes, leads-lend, leads-pass}
-use Rattle.measure.specs.Moves.{potential-head-taken}
-use Rattle.measure.specs.Falls.{falls-self, same-upgraded, not-more-lend, not-more-pass}
+use Rattle.measure.proofs.Moves.{potential-head-taken}
+use Rattle.measure.proofs.Falls.{falls-self, same-upgraded, not-more-lend, not-more-pass}
 
 -- What a room has done so far, with the queue that is still to be served: the heights lead to the token, and the measure is at most b.
 pub record Weighs (n : ℕ) (rooms : ℕ → Room) (kept : List Wire) (height : ℕ → ℕ) (b : ℕ) (w : Work) (queue : List Queued) : Type 0 where

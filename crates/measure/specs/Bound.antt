@@ -16,7 +16,7 @@ use Rattle.facts.specs.Due.{due-held}
 use Rattle.facts.specs.Moments.{Formed}
 use Rattle.facts.specs.Names.{is_naming, is_request, names-sum}
 use Rattle.bounds.specs.Bounds.{level}
-use Rattle.bounds.specs.Weights.{requests, level-le}
+use Rattle.bounds.proofs.Weights.{requests, level-le}
 use Rattle.measure.specs.Measure.{pending, tokens_in, charge, follow, hold_weight, above, extra, pile, nothing, own, load, potential}
 
 -- how many messages name a room

@@ -18,7 +18,7 @@ use Rattle.table.specs.declared.Message.TheVariants as msg
 use Rattle.table.specs.Tables.{no_wire}
 use Rattle.table.specs.Formed.{is_token}
 use Rattle.facts.specs.Wires.{wire, leaving_sent}
-use Rattle.ledger.specs.Frames.{alike}
+use Rattle.ledger.proofs.Frames.{alike}
 use Rattle.ledger.specs.Links.{Sender}
 use Rattle.measure.specs.Way.{passing, Leads}
 use Rattle.facts.specs.Cases.{leaving-either, credited-either, reduced-either}

@@ -3,9 +3,4 @@ pub mod Heights
 pub mod Squeeze
 pub mod Start
 pub mod Measure
-pub mod Behind
-pub mod Piles
-pub mod Loads
-pub mod Moves
-pub mod Falls
 pub mod Bound

@@ -10,7 +10,7 @@ use Rattle.table.specs.declared.Message.TheVariants as msg
 use Rattle.table.specs.Formed.{is_token}
 use Rattle.table.specs.Oldest.{between}
 use Rattle.bounds.specs.Bounds.{level}
-use Rattle.bounds.specs.Weights.{requests}
+use Rattle.bounds.proofs.Weights.{requests}
 
 -- names that wait to be served: in the queue, in REQUESTs, and in hand, taken off the queue or a wire and not yet put down
 abbrev pub pending : List Queued → List Wire → ℕ → ℕ

@@ -1,17 +1,3 @@
 pub mod Parts
 pub mod Clauses
-pub mod Owned
-pub mod Changes
-pub mod Falls
-pub mod Weaker
 pub mod Messages
-pub mod Covered
-pub mod Small
-pub mod Pairs
-pub mod PairsKept
-pub mod Exact
-pub mod Fits
-pub mod Idle
-pub mod Blocked
-pub mod Served
-pub mod Light

@@ -13,7 +13,7 @@ use Rattle.rules.specs.declared.Event.{Event}
 use Rattle.rules.specs.Events.{HANDBACK, DELIVER}
 use Rattle.rules.specs.Step.{step_of}
 use Rattle.drain.specs.Drains.{is_draining, drained_by, is_made, drained, steps}
-use Rattle.drain.specs.Always.{drains}
+use Rattle.drain.proofs.Always.{drains}
 use Rattle.run.specs.declared.draining.Drained.{Drained}
 use Rattle.run.specs.Runs.{events_of, event_at}
 use Rattle.run.specs.Drains.{counted_of, after_of, IsDrained}

@@ -14,8 +14,8 @@ use Rattle.rules.specs.declared.Event.{Event}
 use Rattle.facts.specs.Accepted.{ill-formed-refused}
 use Rattle.facts.specs.Whole.{rooms-low}
 use Rattle.drain.specs.Drains.{is_draining, is_made, steps, bound}
-use Rattle.drain.specs.Ends.{unmade-stays}
-use Rattle.drain.specs.Always.{drains}
+use Rattle.drain.proofs.Ends.{unmade-stays}
+use Rattle.drain.proofs.Always.{drains}
 use Rattle.run.specs.Drains.{left_of, IsLeft}
 
 -- on a table that is not well formed each event is refused, so none is a step

@@ -11,7 +11,7 @@ use Rattle.table.specs.Tables.{answer, fresh_table, fresh_of}
 use Rattle.rules.specs.declared.Event.{Event}
 use Rattle.rules.specs.Step.{runs}
 use Rattle.safe.specs.Reached.{Reached}
-use Rattle.safe.specs.Always.{demand3, reached-formed, reached-few, delivery-accepted, hand-back-accepted}
+use Rattle.safe.proofs.Always.{demand3, reached-formed, reached-few, delivery-accepted, hand-back-accepted}
 use Rattle.run.specs.Runs.{continued, ran_of, Holds, Ran}
 
 -- a fresh table of 1 to 16 rooms is not refused

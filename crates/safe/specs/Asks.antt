@@ -25,14 +25,14 @@ use Rattle.facts.specs.Wires.{wire}
 use Rattle.kept.specs.Start.{formed-of}
 use Rattle.kept.specs.Acts.{Whole, now}
 use Rattle.kept.specs.Asks.{ask-kept}
-use Rattle.ledger.specs.Frames.{same-wire}
+use Rattle.ledger.proofs.Frames.{same-wire}
 use Rattle.owning.specs.Clauses.{Blocked, Served}
-use Rattle.owning.specs.Changes.{same-owned, wanted-same}
-use Rattle.owning.specs.PairsKept.{pairs-hold, pairs-self-loan}
-use Rattle.owning.specs.Exact.{exact-self-loan, owned-weak}
-use Rattle.owning.specs.Light.{light-request, light-ask}
-use Rattle.owning.specs.Served.{served-hold, served-ask, served-head, served-other}
-use Rattle.bounds.specs.Limits.{messages-ask, counters-ask}
+use Rattle.owning.proofs.Changes.{same-owned, wanted-same}
+use Rattle.owning.proofs.PairsKept.{pairs-hold, pairs-self-loan}
+use Rattle.owning.proofs.Exact.{exact-self-loan, owned-weak}
+use Rattle.owning.proofs.Light.{light-request, light-ask}
+use Rattle.owning.proofs.Served.{served-hold, served-ask, served-head, served-other}
+use Rattle.bounds.proofs.Limits.{messages-ask, counters-ask}
 use Rattle.safe.specs.Invariant.{Clauses}
 use Rattle.safe.specs.Requesting.{recounted, clauses-asked, clauses-joined}
 use Rattle.safe.specs.Done.{Done}

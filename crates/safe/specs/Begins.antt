@@ -16,13 +16,13 @@ use Rattle.kept.specs.Acts.{Whole, now}
 use Rattle.facts.specs.Due.{due-none}
 use Rattle.owning.specs.Clauses.{Exact, Agreeing, Pairs, Light, Served}
 use Rattle.owning.specs.Messages.{Unnamed, unnamed-of}
-use Rattle.owning.specs.Weaker.{Weaker, want-weaker}
-use Rattle.owning.specs.PairsKept.{pairs-want}
-use Rattle.owning.specs.Exact.{exact-token, exact-want}
-use Rattle.owning.specs.Fits.{fits-weaker, fits-unnamed}
-use Rattle.owning.specs.Idle.{idle-weaker, idle-unnamed}
-use Rattle.owning.specs.Light.{light-other}
-use Rattle.owning.specs.Served.{served-other}
+use Rattle.owning.proofs.Weaker.{Weaker, want-weaker}
+use Rattle.owning.proofs.PairsKept.{pairs-want}
+use Rattle.owning.proofs.Exact.{exact-token, exact-want}
+use Rattle.owning.proofs.Fits.{fits-weaker, fits-unnamed}
+use Rattle.owning.proofs.Idle.{idle-weaker, idle-unnamed}
+use Rattle.owning.proofs.Light.{light-other}
+use Rattle.owning.proofs.Served.{served-other}
 use Rattle.safe.specs.Invariant.{Clauses, Invariant}
 use Rattle.safe.specs.Moments.{unwaiting}
 use Rattle.safe.specs.Settling.{clauses-modes}

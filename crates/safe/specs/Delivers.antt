@@ -27,12 +27,12 @@ use Rattle.kept.specs.Changed.{changed, changed-same, changed-elsewhere}
 use Rattle.kept.specs.Moment.{Right, empty}
 use Rattle.kept.specs.Acts.{At, Whole, now, only}
 use Rattle.kept.specs.Delivers.{receive-kept, arrived-kept, reduced-kept}
-use Rattle.ledger.specs.Takes.{Oldest}
+use Rattle.ledger.proofs.Takes.{Oldest}
 use Rattle.owning.specs.Messages.{Unnamed, unnamed-of}
-use Rattle.owning.specs.Weaker.{reduced-weaker}
-use Rattle.owning.specs.Exact.{exact-token, exact-grant, exact-arrived, but-reduce}
-use Rattle.owning.specs.Light.{light-other, light-weaker, light-reduce}
-use Rattle.owning.specs.Served.{served-other}
+use Rattle.owning.proofs.Weaker.{reduced-weaker}
+use Rattle.owning.proofs.Exact.{exact-token, exact-grant, exact-arrived, but-reduce}
+use Rattle.owning.proofs.Light.{light-other, light-weaker, light-reduce}
+use Rattle.owning.proofs.Served.{served-other}
 use Rattle.safe.specs.Invariant.{Clauses, Invariant}
 use Rattle.safe.specs.Moments.{in-hand}
 use Rattle.safe.specs.Receiving.{clauses-grant, clauses-token, clauses-reduce}

@@ -22,11 +22,11 @@ use Rattle.rules.specs.Rules.{upgrade_waits}
 use Rattle.facts.specs.Whole.{facts-of}
 use Rattle.kept.specs.Start.{sound}
 use Rattle.kept.specs.Fresh.{room-each, fresh-has}
-use Rattle.ledger.specs.Debts.{debt-none}
-use Rattle.ledger.specs.Senders.{sender-none}
+use Rattle.ledger.proofs.Debts.{debt-none}
+use Rattle.ledger.proofs.Senders.{sender-none}
 use Rattle.owning.specs.Parts.{part}
 use Rattle.owning.specs.Clauses.{Agreeing}
-use Rattle.bounds.specs.Limits.{messages-fresh, counters-fresh}
+use Rattle.bounds.proofs.Limits.{messages-fresh, counters-fresh}
 use Rattle.safe.specs.Invariant.{Clauses, Invariant}
 
 -- What is so of a record that is none or zero but for its token and its way to it.

@@ -8,11 +8,11 @@ use Rattle.rules.specs.Work.{Work}
 use Rattle.rules.specs.Rules.{hold, settle, serve, settle_or_serve, hand_back}
 use Rattle.kept.specs.Acts.{Whole, now}
 use Rattle.kept.specs.Asks.{handed-kept}
-use Rattle.owning.specs.PairsKept.{pairs-hand-back}
-use Rattle.owning.specs.Weaker.{Weaker, hand-back-weaker}
-use Rattle.owning.specs.Exact.{but-hand-back}
-use Rattle.owning.specs.Fits.{fits-weaker}
-use Rattle.owning.specs.Idle.{idle-weaker}
+use Rattle.owning.proofs.PairsKept.{pairs-hand-back}
+use Rattle.owning.proofs.Weaker.{Weaker, hand-back-weaker}
+use Rattle.owning.proofs.Exact.{but-hand-back}
+use Rattle.owning.proofs.Fits.{fits-weaker}
+use Rattle.owning.proofs.Idle.{idle-weaker}
 use Rattle.safe.specs.Invariant.{Clauses}
 use Rattle.safe.specs.Settling.{clauses-modes}
 use Rattle.safe.specs.Done.{Done}

@@ -30,18 +30,18 @@ use Rattle.kept.specs.Moment.{empty}
 use Rattle.kept.specs.Acts.{At, Whole, now, only, put-joined}
 use Rattle.kept.specs.Loans.{lend-kept}
 use Rattle.kept.specs.Sends.{put-request}
-use Rattle.ledger.specs.Frames.{sender-is}
-use Rattle.ledger.specs.Takes.{Oldest}
-use Rattle.ledger.specs.Senders.{not-sender}
+use Rattle.ledger.proofs.Frames.{sender-is}
+use Rattle.ledger.proofs.Takes.{Oldest}
+use Rattle.ledger.proofs.Senders.{not-sender}
 use Rattle.owning.specs.Messages.{Unnamed, unnamed-of, unnamed-token, unnamed-grant}
-use Rattle.owning.specs.Weaker.{lent-weaker}
-use Rattle.owning.specs.Exact.{but-lend}
-use Rattle.owning.specs.Light.{light-join, light-weaker}
-use Rattle.owning.specs.Served.{served-other}
+use Rattle.owning.proofs.Weaker.{lent-weaker}
+use Rattle.owning.proofs.Exact.{but-lend}
+use Rattle.owning.proofs.Light.{light-join, light-weaker}
+use Rattle.owning.proofs.Served.{served-other}
 use Rattle.tree.specs.Tree.{Tree, NoTokenTo}
-use Rattle.tree.specs.Children.{no-borrower, no-grant}
-use Rattle.tree.specs.Kept.{lend-tree}
-use Rattle.bounds.specs.Limits.{never-worn}
+use Rattle.tree.proofs.Children.{no-borrower, no-grant}
+use Rattle.tree.proofs.Kept.{lend-tree}
+use Rattle.bounds.proofs.Limits.{never-worn}
 use Rattle.safe.specs.Invariant.{Clauses, Invariant}
 use Rattle.safe.specs.Moments.{in-hand}
 use Rattle.safe.specs.Lending.{clauses-lend}

@@ -16,20 +16,20 @@ use Rattle.table.specs.declared.Message.TheVariants as msg
 use Rattle.table.specs.Oldest.{between}
 use Rattle.table.specs.Formed.{is_token}
 use Rattle.facts.specs.Wires.{wire}
-use Rattle.ledger.specs.Frames.{alike, sender-is, receiver-is}
-use Rattle.ledger.specs.Lends.{ledger-lend}
-use Rattle.ledger.specs.Numbers.{counters-kept, links-lend}
-use Rattle.ledger.specs.Reach.{reach-still}
-use Rattle.ledger.specs.Senders.{sender-sent}
+use Rattle.ledger.proofs.Frames.{alike, sender-is, receiver-is}
+use Rattle.ledger.proofs.Lends.{ledger-lend}
+use Rattle.ledger.proofs.Numbers.{counters-kept, links-lend}
+use Rattle.ledger.proofs.Reach.{reach-still}
+use Rattle.ledger.proofs.Senders.{sender-sent}
 use Rattle.owning.specs.Messages.{kind}
-use Rattle.owning.specs.Small.{small-lend}
-use Rattle.owning.specs.PairsKept.{pairs-lend}
-use Rattle.owning.specs.Fits.{fits-lend}
-use Rattle.owning.specs.Idle.{idle-lend}
+use Rattle.owning.proofs.Small.{small-lend}
+use Rattle.owning.proofs.PairsKept.{pairs-lend}
+use Rattle.owning.proofs.Fits.{fits-lend}
+use Rattle.owning.proofs.Idle.{idle-lend}
 use Rattle.tree.specs.Tree.{Tree}
-use Rattle.bounds.specs.Messages.{messages-lend}
-use Rattle.bounds.specs.Counters.{counters-lend}
-use Rattle.bounds.specs.Limits.{next-link}
+use Rattle.bounds.proofs.Messages.{messages-lend}
+use Rattle.bounds.proofs.Counters.{counters-lend}
+use Rattle.bounds.proofs.Limits.{next-link}
 use Rattle.safe.specs.Invariant.{Clauses}
 
 module _ (n : ℕ) (old new : ℕ → Room) (queue : List Queued) (messages : List Wire) (me : ℕ) (low : me < n) (limit : n ≤ room_limit)

@@ -18,4 +18,3 @@ pub mod Delivers
 pub mod Fresh
 pub mod Reached
 pub mod Step
-pub mod Always

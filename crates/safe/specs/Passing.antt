@@ -15,20 +15,20 @@ use Rattle.table.specs.Formed.{is_token}
 use Rattle.facts.specs.Wires.{wire}
 use Rattle.facts.specs.Tokens.{holder-quiet}
 use Rattle.kept.specs.Moment.{Moment}
-use Rattle.ledger.specs.Debts.{is_setting}
-use Rattle.ledger.specs.Passes.{ledger-pass}
-use Rattle.ledger.specs.Numbers.{links-pass}
-use Rattle.ledger.specs.Senders.{sender-pass}
+use Rattle.ledger.proofs.Debts.{is_setting}
+use Rattle.ledger.proofs.Passes.{ledger-pass}
+use Rattle.ledger.proofs.Numbers.{links-pass}
+use Rattle.ledger.proofs.Senders.{sender-pass}
 use Rattle.owning.specs.Messages.{Unnamed, unnamed-grant}
-use Rattle.owning.specs.Covered.{Covered}
-use Rattle.owning.specs.Small.{small-pass}
-use Rattle.owning.specs.PairsKept.{pairs-pass}
-use Rattle.owning.specs.Fits.{fits-pass}
-use Rattle.owning.specs.Idle.{idle-pass}
-use Rattle.tree.specs.Kept.{pass-tree}
-use Rattle.bounds.specs.Messages.{messages-pass}
-use Rattle.bounds.specs.Counters.{counters-pass}
-use Rattle.bounds.specs.Limits.{next-link}
+use Rattle.owning.proofs.Covered.{Covered}
+use Rattle.owning.proofs.Small.{small-pass}
+use Rattle.owning.proofs.PairsKept.{pairs-pass}
+use Rattle.owning.proofs.Fits.{fits-pass}
+use Rattle.owning.proofs.Idle.{idle-pass}
+use Rattle.tree.proofs.Kept.{pass-tree}
+use Rattle.bounds.proofs.Messages.{messages-pass}
+use Rattle.bounds.proofs.Counters.{counters-pass}
+use Rattle.bounds.proofs.Limits.{next-link}
 use Rattle.safe.specs.Invariant.{Clauses}
 use Rattle.safe.specs.Moments.{ungranted, unasked}
 

@@ -19,21 +19,21 @@ use Rattle.facts.specs.Rooms.{RoomFacts}
 use Rattle.facts.specs.Wires.{wire, leaving_sent}
 use Rattle.facts.specs.Cases.{leaving-either, reduced-either}
 use Rattle.ledger.specs.Links.{Sender}
-use Rattle.ledger.specs.Frames.{alike}
-use Rattle.ledger.specs.Takes.{Oldest, ledger-reduce}
-use Rattle.ledger.specs.Numbers.{counters-kept}
-use Rattle.ledger.specs.Received.{links-reduce}
-use Rattle.ledger.specs.Leaving.{granted-both, tokened-both}
-use Rattle.ledger.specs.Senders.{sender-none, sender-sent, sender-taken}
+use Rattle.ledger.proofs.Frames.{alike}
+use Rattle.ledger.proofs.Takes.{Oldest, ledger-reduce}
+use Rattle.ledger.proofs.Numbers.{counters-kept}
+use Rattle.ledger.proofs.Received.{links-reduce}
+use Rattle.ledger.proofs.Leaving.{granted-both, tokened-both}
+use Rattle.ledger.proofs.Senders.{sender-none, sender-sent, sender-taken}
 use Rattle.owning.specs.Clauses.{ReduceSmall}
 use Rattle.owning.specs.Messages.{Unnamed, unnamed-grant, leaving-among, kind}
-use Rattle.owning.specs.Small.{small-grant, small-token, small-reduce}
-use Rattle.owning.specs.PairsKept.{pairs-grant, pairs-token, pairs-reduce}
-use Rattle.owning.specs.Fits.{fits-arrived, fits-reduce}
-use Rattle.owning.specs.Idle.{idle-arrived, idle-reduce}
-use Rattle.tree.specs.Kept.{grant-tree, token-tree, reduce-tree}
-use Rattle.bounds.specs.Messages.{messages-grant, messages-token, messages-reduce}
-use Rattle.bounds.specs.Counters.{counters-grant, counters-token, counters-reduce}
+use Rattle.owning.proofs.Small.{small-grant, small-token, small-reduce}
+use Rattle.owning.proofs.PairsKept.{pairs-grant, pairs-token, pairs-reduce}
+use Rattle.owning.proofs.Fits.{fits-arrived, fits-reduce}
+use Rattle.owning.proofs.Idle.{idle-arrived, idle-reduce}
+use Rattle.tree.proofs.Kept.{grant-tree, token-tree, reduce-tree}
+use Rattle.bounds.proofs.Messages.{messages-grant, messages-token, messages-reduce}
+use Rattle.bounds.proofs.Counters.{counters-grant, counters-token, counters-reduce}
 use Rattle.safe.specs.Invariant.{Clauses}
 
 -- the REDUCE to a lender that is left is no TOKEN and no REQUEST

@@ -11,18 +11,18 @@ use Rattle.table.specs.declared.Message.TheVariants as msg
 use Rattle.table.specs.Oldest.{between}
 use Rattle.table.specs.Formed.{is_token}
 use Rattle.facts.specs.Wires.{wire}
-use Rattle.ledger.specs.Calm.{ledger-ask, ledger-heard}
-use Rattle.ledger.specs.Takes.{Oldest}
-use Rattle.ledger.specs.Received.{links-ask, links-taken}
-use Rattle.ledger.specs.Senders.{sender-sent, sender-taken}
-use Rattle.owning.specs.Small.{small-request, small-taken}
-use Rattle.owning.specs.Pairs.{pairs-request, pairs-taken}
-use Rattle.owning.specs.Fits.{fits-request, fits-taken}
-use Rattle.owning.specs.Idle.{idle-request, idle-taken}
-use Rattle.tree.specs.Kept.{request-sent-tree, request-taken-tree}
+use Rattle.ledger.proofs.Calm.{ledger-ask, ledger-heard}
+use Rattle.ledger.proofs.Takes.{Oldest}
+use Rattle.ledger.proofs.Received.{links-ask, links-taken}
+use Rattle.ledger.proofs.Senders.{sender-sent, sender-taken}
+use Rattle.owning.proofs.Small.{small-request, small-taken}
+use Rattle.owning.proofs.Pairs.{pairs-request, pairs-taken}
+use Rattle.owning.proofs.Fits.{fits-request, fits-taken}
+use Rattle.owning.proofs.Idle.{idle-request, idle-taken}
+use Rattle.tree.proofs.Kept.{request-sent-tree, request-taken-tree}
 use Rattle.bounds.specs.Bounds.{Messages, Counters}
-use Rattle.bounds.specs.Messages.{messages-request-sent, messages-request-taken, messages-head-taken, messages-joined, messages-dropped}
-use Rattle.bounds.specs.Counters.{counters-request-sent, counters-request-taken, counters-head-taken, counters-joined, counters-dropped}
+use Rattle.bounds.proofs.Messages.{messages-request-sent, messages-request-taken, messages-head-taken, messages-joined, messages-dropped}
+use Rattle.bounds.proofs.Counters.{counters-request-sent, counters-request-taken, counters-head-taken, counters-joined, counters-dropped}
 use Rattle.safe.specs.Invariant.{Clauses}
 
 -- the queue and the names in hand are in two clauses alone

@@ -23,12 +23,12 @@ use Rattle.kept.specs.Moment.{empty}
 use Rattle.kept.specs.Acts.{now}
 use Rattle.kept.specs.Serve.{upgraded-kept, upgraded-token}
 use Rattle.owning.specs.Messages.{Unnamed, unnamed-of}
-use Rattle.owning.specs.PairsKept.{pairs-upgrade}
-use Rattle.owning.specs.Exact.{exact-token}
-use Rattle.owning.specs.Fits.{fits-unnamed}
-use Rattle.owning.specs.Idle.{idle-unnamed}
-use Rattle.owning.specs.Light.{light-other}
-use Rattle.owning.specs.Served.{served-serve}
+use Rattle.owning.proofs.PairsKept.{pairs-upgrade}
+use Rattle.owning.proofs.Exact.{exact-token}
+use Rattle.owning.proofs.Fits.{fits-unnamed}
+use Rattle.owning.proofs.Idle.{idle-unnamed}
+use Rattle.owning.proofs.Light.{light-other}
+use Rattle.owning.proofs.Served.{served-serve}
 use Rattle.safe.specs.Invariant.{Clauses}
 use Rattle.safe.specs.Moments.{unwaiting}
 use Rattle.safe.specs.Settling.{clauses-modes}

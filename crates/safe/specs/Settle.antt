@@ -19,10 +19,10 @@ use Rattle.kept.specs.Changed.{changed, changed-same, changed-elsewhere}
 use Rattle.kept.specs.Acts.{Whole, now}
 use Rattle.kept.specs.Settle.{settle-kept}
 use Rattle.owning.specs.Clauses.{Light, Served}
-use Rattle.owning.specs.Exact.{ExactBut, exact-still, exact-settle, settle-weak}
-use Rattle.owning.specs.Weaker.{credited-weaker}
-use Rattle.owning.specs.Light.{light-weaker}
-use Rattle.owning.specs.Served.{served-other}
+use Rattle.owning.proofs.Exact.{ExactBut, exact-still, exact-settle, settle-weak}
+use Rattle.owning.proofs.Weaker.{credited-weaker}
+use Rattle.owning.proofs.Light.{light-weaker}
+use Rattle.owning.proofs.Served.{served-other}
 use Rattle.safe.specs.Invariant.{Clauses}
 use Rattle.safe.specs.Settling.{clauses-settle}
 use Rattle.safe.specs.Done.{Done}

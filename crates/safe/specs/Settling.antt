@@ -18,21 +18,21 @@ use Rattle.table.specs.Formed.{is_token}
 use Rattle.facts.specs.Rooms.{RoomFacts}
 use Rattle.facts.specs.Wires.{wire}
 use Rattle.facts.specs.Cases.{credited-either}
-use Rattle.ledger.specs.Frames.{alike}
-use Rattle.ledger.specs.Lends.{ledger-pay}
-use Rattle.ledger.specs.Calm.{ledger-modes}
-use Rattle.ledger.specs.Numbers.{counters-kept, links-modes}
-use Rattle.ledger.specs.Received.{links-pay}
-use Rattle.ledger.specs.Senders.{sender-same, sender-sent}
+use Rattle.ledger.proofs.Frames.{alike}
+use Rattle.ledger.proofs.Lends.{ledger-pay}
+use Rattle.ledger.proofs.Calm.{ledger-modes}
+use Rattle.ledger.proofs.Numbers.{counters-kept, links-modes}
+use Rattle.ledger.proofs.Received.{links-pay}
+use Rattle.ledger.proofs.Senders.{sender-same, sender-sent}
 use Rattle.owning.specs.Clauses.{Pairs, Fits, Idle}
 use Rattle.owning.specs.Messages.{kind}
-use Rattle.owning.specs.Small.{small-modes, small-settle}
-use Rattle.owning.specs.PairsKept.{pairs-settle}
-use Rattle.owning.specs.Fits.{fits-settle}
-use Rattle.owning.specs.Idle.{idle-settle}
-use Rattle.tree.specs.Kept.{modes-tree, settle-tree}
-use Rattle.bounds.specs.Messages.{messages-modes, messages-settle}
-use Rattle.bounds.specs.Counters.{counters-modes, counters-settle}
+use Rattle.owning.proofs.Small.{small-modes, small-settle}
+use Rattle.owning.proofs.PairsKept.{pairs-settle}
+use Rattle.owning.proofs.Fits.{fits-settle}
+use Rattle.owning.proofs.Idle.{idle-settle}
+use Rattle.tree.proofs.Kept.{modes-tree, settle-tree}
+use Rattle.bounds.proofs.Messages.{messages-modes, messages-settle}
+use Rattle.bounds.proofs.Counters.{counters-modes, counters-settle}
 use Rattle.safe.specs.Invariant.{Clauses}
 
 module _ (n : ℕ) (old new : ℕ → Room) (queue : List Queued) (messages : List Wire) (me : ℕ) (low : me < n) (limit : n ≤ room_limit)

@@ -30,7 +30,7 @@ use Rattle.kept.specs.Acts.{now}
 use Rattle.kept.specs.After.{Lawful, rooms-are, queue-is, messages-are, after-lawful}
 use Rattle.kept.specs.Start.{same-rooms, start, take-oldest}
 use Rattle.kept.specs.Kept.{refused-stays}
-use Rattle.bounds.specs.Limits.{messages-fit}
+use Rattle.bounds.proofs.Limits.{messages-fit}
 use Rattle.safe.specs.Invariant.{Invariant}
 use Rattle.safe.specs.Done.{Done}
 use Rattle.safe.specs.Asks.{ask-safe}

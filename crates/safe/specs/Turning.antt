@@ -31,17 +31,17 @@ use Rattle.kept.specs.Hand.{name_of, take-queued}
 use Rattle.kept.specs.Acts.{Whole, now}
 use Rattle.kept.specs.Turns.{turn-self, turn-lend, turn-pass}
 use Rattle.owning.specs.Clauses.{Exact, Light}
-use Rattle.owning.specs.Weaker.{lent-weaker, passed-weaker}
+use Rattle.owning.proofs.Weaker.{lent-weaker, passed-weaker}
 use Rattle.owning.specs.Messages.{Unnamed, unnamed-of}
-use Rattle.owning.specs.Covered.{Covered, loan-fits}
-use Rattle.owning.specs.PairsKept.{pairs-hold}
-use Rattle.owning.specs.Exact.{exact-token, exact-pass}
-use Rattle.owning.specs.Fits.{fits-unnamed}
-use Rattle.owning.specs.Idle.{idle-unnamed}
-use Rattle.owning.specs.Light.{light-away, light-self, light-turn}
-use Rattle.tree.specs.Dominance.{dominated}
-use Rattle.tree.specs.Kept.{lend-root-tree}
-use Rattle.bounds.specs.Limits.{never-worn}
+use Rattle.owning.proofs.Covered.{Covered, loan-fits}
+use Rattle.owning.proofs.PairsKept.{pairs-hold}
+use Rattle.owning.proofs.Exact.{exact-token, exact-pass}
+use Rattle.owning.proofs.Fits.{fits-unnamed}
+use Rattle.owning.proofs.Idle.{idle-unnamed}
+use Rattle.owning.proofs.Light.{light-away, light-self, light-turn}
+use Rattle.tree.proofs.Dominance.{dominated}
+use Rattle.tree.proofs.Kept.{lend-root-tree}
+use Rattle.bounds.proofs.Limits.{never-worn}
 use Rattle.safe.specs.Invariant.{Clauses}
 use Rattle.safe.specs.Moments.{in-hand, ungranted}
 use Rattle.safe.specs.Lending.{clauses-lend}

@@ -12,9 +12,9 @@ use Rattle.rules.specs.Work.{Work}
 use Rattle.rules.specs.Rules.{hold, want, upgrade}
 use Rattle.kept.specs.Acts.{Whole, now}
 use Rattle.kept.specs.Asks.{upgrade-kept}
-use Rattle.owning.specs.PairsKept.{pairs-upgrade}
-use Rattle.owning.specs.Light.{light-other}
-use Rattle.owning.specs.Served.{served-upgrade, served-waits}
+use Rattle.owning.proofs.PairsKept.{pairs-upgrade}
+use Rattle.owning.proofs.Light.{light-other}
+use Rattle.owning.proofs.Served.{served-upgrade, served-waits}
 use Rattle.safe.specs.Done.{Done}
 use Rattle.safe.specs.Begins.{at_room, facts, alone-after, unnamed, here, modes-now, wants-now, holding, still, held-exact, held-done, wanting, same, wanted-exact, clauses-want}
 

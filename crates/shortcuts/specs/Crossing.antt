@@ -32,7 +32,7 @@ use Rattle.kept.specs.After.{Lawful}
 use Rattle.kept.specs.Start.{sound}
 use Rattle.ledger.specs.Loans.{flush, owe, arriving, debt, flushed, owed, Ledger}
 use Rattle.ledger.specs.Links.{reach, Links}
-use Rattle.ledger.specs.Senders.{sender-none}
+use Rattle.ledger.proofs.Senders.{sender-none}
 use Rattle.owning.specs.Parts.{part}
 use Rattle.owning.specs.Clauses.{Small, Pairs}
 use Rattle.tree.specs.Tree.{is_grant, Tree}

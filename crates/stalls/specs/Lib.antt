@@ -1,3 +1,1 @@
 pub mod Habits
-pub mod Stalls
-pub mod Circle

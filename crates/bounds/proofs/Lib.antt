@@ -1,0 +1,4 @@
+pub mod Weights
+pub mod Messages
+pub mod Counters
+pub mod Limits

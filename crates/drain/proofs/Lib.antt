@@ -1,0 +1,11 @@
+pub mod Steps
+pub mod Ways
+pub mod Pots
+pub mod Quiet
+pub mod Rest
+pub mod Refused
+pub mod Further
+pub mod Ends
+pub mod Goes
+pub mod Given
+pub mod Always

@@ -1,0 +1,12 @@
+pub mod Arrivals
+pub mod Frames
+pub mod Debts
+pub mod Lends
+pub mod Passes
+pub mod Takes
+pub mod Calm
+pub mod Reach
+pub mod Numbers
+pub mod Received
+pub mod Senders
+pub mod Leaving

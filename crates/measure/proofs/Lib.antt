@@ -1,0 +1,5 @@
+pub mod Behind
+pub mod Piles
+pub mod Loads
+pub mod Moves
+pub mod Falls

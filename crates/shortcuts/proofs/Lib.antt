@@ -1,0 +1,4 @@
+pub mod Same
+pub mod Ends
+pub mod Forbidden
+pub mod Owing

@@ -1,0 +1,2 @@
+pub mod Stalls
+pub mod Circle
