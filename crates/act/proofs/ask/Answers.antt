@@ -1,6 +1,5 @@
 use Rattle.rules.specs.Rules as rules
 use Rattle.act.proofs.Laying.{whole}
-use borrow.Author.Rules.{rules}
 use Rattle.act.proofs.ask.Goals as goal
 
 pub returns : goal.returns

@@ -1,12 +1,8 @@
 use Rattle.table.specs.Limits.{queue_limit}
 use Rattle.act.specs.Desk.{place_limit}
-use borrow.Author.Rules.{rules}
-use native.Mathlib.Omega.{arith}
-use mathlib.Core.Path.{◌≡◌, refl}
+use mathlib.Core.Path.{◌≡◌}
 use Prim.Native.Nat.{◌≤◌, ◌-◌}
-use lib.ListN.{length, take, length-set}
-use Rattle.act.proofs.Known.{start-long}
-use Rattle.act.proofs.Laying.{lay-more, lays-part, lays-whole}
+use lib.ListN.{length, take}
 use Rattle.act.proofs.lay_out.Given as goal
 
 abbrev pub invariant-loop-i : goal.invariant-loop-i

@@ -1,15 +1,10 @@
-use lib.ListN.{length-set}
-use borrow.Author.Rules.{rules}
-use native.Mathlib.Omega.{arith}
-use mathlib.Core.Path.{◌≡◌, refl}
+use mathlib.Core.Path.{◌≡◌}
 use Prim.Native.Nat.{◌≤◌, ◌-◌}
 use lib.ListN.{length}
 use lib.Seq.{slice}
 use Rattle.base.specs.Arrays.{padded}
 use Rattle.table.specs.Tables.{no_queued}
 use Rattle.act.specs.Desk.{place_limit}
-use Rattle.act.proofs.Known.{queue_long, out-long}
-use Rattle.act.proofs.Laying.{tidy-none, tidy-more, tidy-is}
 use Rattle.act.proofs.tidy.Given as goal
 
 abbrev pub invariant-loop-i : goal.invariant-loop-i

@@ -1,7 +1,6 @@
 use native.Mathlib.Omega.{arith}
 use Rattle.act.proofs.Known.{queue_long}
 use Rattle.act.proofs.Desks.{join_is}
-use borrow.Author.Rules.{rules}
 use Rattle.act.proofs.desk.join.Goals as goal
 
 pub returns : goal.returns

@@ -1,7 +1,6 @@
 use native.Mathlib.Omega.{arith}
 use Rattle.act.proofs.Known.{out-long}
 use Rattle.act.proofs.Desks.{post_is}
-use borrow.Author.Rules.{rules}
 use Rattle.act.proofs.desk.post.Goals as goal
 
 pub returns : goal.returns

@@ -1,14 +1,8 @@
 use Rattle.act.proofs.Turns.{stays-clean}
 use Rattle.act.proofs.Turns.{turned-less, turned_same}
 use Rattle.act.proofs.Turns.{serve_is}
-use borrow.Author.Rules.{rules}
 use native.Mathlib.Omega.{arith}
-use mathlib.Core.Path.{◌≡◌, refl}
-use mathlib.Core.Bool.{true}
-use Prim.Native.Nat.{◌+◌, ◌-◌}
-use Rattle.base.specs.Sums.{one}
-use Rattle.rules.specs.Rules.{upgraded}
-use Rattle.act.specs.Desk.{work_of, Ready, rest}
+use mathlib.Core.Path.{refl}
 use Rattle.act.proofs.desk.serve.Goals as goal
 
 pub loop-again-init : goal.loop-again-init
@@ -20,7 +14,6 @@ loop-again-init c = (
     «room» = omega arith;
     clean = stays-clean _ _ c.requires.clean c.upgraded-e.ensures.sent c.upgraded-e.ensures.out;
   },
-
 )
 
 pub turn-t-requires : goal.turn-t-requires
@@ -34,7 +27,6 @@ loop-again-preserved c = (
   turned_same _ _ _ _ c.loop-again-test.true c.turn-t.ensures c.upgraded-e.result
       c.loop-again.invariant.0,
   c.turn-t.ensures.ready,
-
 )
 
 pub returns : goal.returns

@@ -1,13 +1,7 @@
-use Rattle.act.proofs.Turns.{stays-clean}
-use Rattle.act.proofs.Turns.{turned-less, turned_same}
-use Rattle.act.proofs.Turns.{serve_is}
-use borrow.Author.Rules.{rules}
-use native.Mathlib.Omega.{arith}
-use mathlib.Core.Path.{◌≡◌, refl}
+use mathlib.Core.Path.{◌≡◌}
 use mathlib.Core.Bool.{true}
 use Prim.Native.Nat.{◌+◌, ◌-◌}
 use Rattle.base.specs.Sums.{one}
-use Rattle.rules.specs.Rules.{upgraded}
 use Rattle.act.specs.Desk.{work_of, Ready, rest}
 use Rattle.act.proofs.desk.serve.Given as goal
 
