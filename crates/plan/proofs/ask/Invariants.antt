@@ -1,0 +1,24 @@
+use native.Mathlib.Omega.{arith}
+use mathlib.Core.Path.{◌≡◌, refl}
+use mathlib.Core.Logic.{⊎_elim}
+use mathlib.Core.Bool.{Bool, true}
+use Prim.Native.Nat.{ℕ, ◌≤◌, ◌-◌}
+use lib.Dec.{ltb}
+use borrow.Author.Tests.{lt-ltb, le-ltb}
+use Rattle.base.specs.Below.{all_below, all_more, all-fails}
+use Rattle.table.specs.declared.Table.{Table}
+use Rattle.table.specs.Tables.{room_at}
+use Rattle.rules.specs.Limits.{worn_limit}
+use Rattle.plan.proofs.Numbers.{refused-is, ask-below, ask-above, ask-waiting, ask-held, ask-busy, ask-worn, ask-made, ask-is}
+use borrow.Author.Rules.{rules}
+use Rattle.plan.proofs.ask.Given as goal
+
+-- the counter of room c is not worn
+abbrev pub fresh : Table → ℕ → Bool
+fresh t c = ltb (room_at t c).counter worn_limit
+
+abbrev pub invariant-loop-i : goal.invariant-loop-i
+invariant-loop-i l = (l.i ≤ l.n) × (all_below l.i (fresh l.t) ≡ true)
+
+abbrev pub decreases-loop-i : goal.decreases-loop-i
+decreases-loop-i l = l.n - l.i

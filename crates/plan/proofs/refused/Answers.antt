@@ -1,0 +1,5 @@
+use borrow.Author.Rules.{rules}
+use Rattle.plan.proofs.refused.Goals as goal
+
+pub returns : goal.returns
+returns c = rw c.blank-room.ensures
