@@ -1,16 +1,11 @@
-use native.Mathlib.Omega.{arith}
-use mathlib.Core.Path.{◌≡◌, refl}
-use mathlib.Core.Logic.{⊎_elim}
+use mathlib.Core.Path.{◌≡◌}
 use mathlib.Core.Bool.{Bool, true}
 use Prim.Native.Nat.{ℕ, ◌≤◌, ◌-◌}
 use lib.Dec.{ltb}
-use borrow.Author.Tests.{lt-ltb, le-ltb}
-use Rattle.base.specs.Below.{all_below, all_more, all-fails}
+use Rattle.base.specs.Below.{all_below}
 use Rattle.table.specs.declared.Table.{Table}
 use Rattle.table.specs.Tables.{room_at}
 use Rattle.rules.specs.Limits.{worn_limit}
-use Rattle.plan.proofs.Numbers.{refused-is, ask-below, ask-above, ask-waiting, ask-held, ask-busy, ask-worn, ask-made, ask-is}
-use borrow.Author.Rules.{rules}
 use Rattle.plan.proofs.ask.Given as goal
 
 -- the counter of room c is not worn
