@@ -3,7 +3,7 @@ use borrow.Author.Rules.{rules}
 use Rattle.act.proofs.acts.ask.Goals as goal
 
 pub returns-then-d : goal.returns-then-d
-returns-then-d c = search (rules, ask-token)
+returns-then-d c = search ask-token
 
 pub returns : goal.returns
-returns c = search (rules, ask-none)
+returns c = search ask-none

@@ -11,7 +11,7 @@ returns-then-d c =
     ask-behind s.args.d _ s.requires _ _ c.want.ensures c.join.ensures c.if-d.true (omega arith)
 
 pub returns-then-not-agree : goal.returns-then-not-agree
-returns-then-not-agree c = search (rules, ask-conflict)
+returns-then-not-agree c = search ask-conflict
 
 pub returns : goal.returns
-returns c = search (rules, ask_holds)
+returns c = search ask_holds

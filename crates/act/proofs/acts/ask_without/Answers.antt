@@ -3,7 +3,7 @@ use borrow.Author.Rules.{rules}
 use Rattle.act.proofs.acts.ask_without.Goals as goal
 
 pub returns-then-can_lend : goal.returns-then-can_lend
-returns-then-can_lend c = search (rules, ask-lends)
+returns-then-can_lend c = search ask-lends
 
 pub returns : goal.returns
-returns c = search (rules, ask-requests)
+returns c = search ask-requests

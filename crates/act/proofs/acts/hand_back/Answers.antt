@@ -8,4 +8,4 @@ pub settle_or_serve-requires : goal.settle_or_serve-requires
 settle_or_serve-requires c = (stays-ready _ c.requires _ _ c.hold.ensures, omega arith)
 
 pub returns : goal.returns
-returns c = search (rules, hands-back)
+returns c = search hands-back

@@ -3,7 +3,7 @@ use borrow.Author.Rules.{rules}
 use Rattle.act.proofs.acts.upgrade.Goals as goal
 
 pub returns-then-has_no_entries : goal.returns-then-has_no_entries
-returns-then-has_no_entries c = search (rules, upgrade-holds)
+returns-then-has_no_entries c = search upgrade-holds
 
 pub returns : goal.returns
-returns c = search (rules, upgrade-waits)
+returns c = search upgrade-waits

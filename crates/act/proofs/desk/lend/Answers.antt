@@ -3,4 +3,4 @@ use borrow.Author.Rules.{rules}
 use Rattle.act.proofs.desk.lend.Goals as goal
 
 pub returns : goal.returns
-returns c = search (rules, lend-is)
+returns c = search lend-is

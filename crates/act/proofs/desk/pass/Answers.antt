@@ -3,4 +3,4 @@ use borrow.Author.Rules.{rules}
 use Rattle.act.proofs.desk.pass.Goals as goal
 
 pub returns : goal.returns
-returns c = search (rules, pass-is)
+returns c = search pass-is

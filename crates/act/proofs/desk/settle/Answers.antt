@@ -3,4 +3,4 @@ use borrow.Author.Rules.{rules}
 use Rattle.act.proofs.desk.settle.Goals as goal
 
 pub returns : goal.returns
-returns c = search (rules, settle_is)
+returns c = search settle_is

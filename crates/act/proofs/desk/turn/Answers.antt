@@ -4,10 +4,10 @@ use borrow.Author.Rules.{rules}
 use Rattle.act.proofs.desk.turn.Goals as goal
 
 pub returns-then-at-d : goal.returns-then-at-d
-returns-then-at-d c = search (rules, turn-empty)
+returns-then-at-d c = search turn-empty
 
 pub returns-in-Stop : goal.returns-in-Stop
-returns-in-Stop c = search (rules, turn-stop, queue_long)
+returns-in-Stop c = search (turn-stop, queue_long)
 
 pub returns : goal.returns
-returns c = search (rules, turn-carried, queue_long)
+returns c = search (turn-carried, queue_long)
