@@ -3,7 +3,6 @@ use mathlib.Core.Bool.{true, not, ◌&&◌}
 use mathlib.Core.Path.{ap}
 use Rattle.plan.specs.Plans.{placed}
 use Rattle.plan.proofs.Numbers.{refused-is, no_table, told-not, rooms-over, messages-over, no-event, no_room_lem, told_is}
-use borrow.Author.Rules.{rules}
 use Rattle.plan.proofs.planned.Goals as goal
 
 pub returns-then-not-formed : goal.returns-then-not-formed

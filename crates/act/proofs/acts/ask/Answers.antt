@@ -1,5 +1,4 @@
 use Rattle.act.proofs.Actions.{ask-token, ask-none}
-use borrow.Author.Rules.{rules}
 use Rattle.act.proofs.acts.ask.Goals as goal
 
 pub returns-then-d : goal.returns-then-d

@@ -1,7 +1,6 @@
 use Rattle.act.proofs.Known.{queue_long}
 use native.Mathlib.Omega.{arith}
 use Rattle.act.proofs.Actions.{ask-behind, ask-conflict, ask_holds}
-use borrow.Author.Rules.{rules}
 use Rattle.act.proofs.acts.ask_with.Goals as goal
 
 pub returns-then-d : goal.returns-then-d

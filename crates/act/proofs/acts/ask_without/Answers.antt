@@ -1,5 +1,4 @@
 use Rattle.act.proofs.Actions.{ask-lends, ask-requests}
-use borrow.Author.Rules.{rules}
 use Rattle.act.proofs.acts.ask_without.Goals as goal
 
 pub returns-then-can_lend : goal.returns-then-can_lend

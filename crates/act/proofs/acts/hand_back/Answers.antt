@@ -1,7 +1,6 @@
 use native.Mathlib.Omega.{arith}
 use Rattle.act.proofs.Actions.{stays-ready}
 use Rattle.act.proofs.Actions.{hands-back}
-use borrow.Author.Rules.{rules}
 use Rattle.act.proofs.acts.hand_back.Goals as goal
 
 pub settle_or_serve-requires : goal.settle_or_serve-requires

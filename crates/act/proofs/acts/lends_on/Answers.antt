@@ -1,5 +1,4 @@
 use Rattle.act.proofs.Actions.{lends-not-idle, lends-not-self, lends-can}
-use borrow.Author.Rules.{rules}
 use Rattle.act.proofs.acts.lends_on.Goals as goal
 
 pub returns-then-not-idle : goal.returns-then-not-idle

@@ -1,6 +1,5 @@
 use Rattle.act.proofs.Actions.{sends-ready}
 use Rattle.act.proofs.Actions.{receive-nothing, receive-request, receive-grant, receive-token, receive-reduce}
-use borrow.Author.Rules.{rules}
 use Rattle.act.proofs.acts.receive.Goals as goal
 
 pub take_request-requires : goal.take_request-requires

@@ -1,5 +1,4 @@
 use Rattle.act.proofs.Actions.{serves, settles}
-use borrow.Author.Rules.{rules}
 use Rattle.act.proofs.acts.settle_or_serve.Goals as goal
 
 pub returns-then-d : goal.returns-then-d

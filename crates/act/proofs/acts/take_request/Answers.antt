@@ -1,6 +1,5 @@
 use Rattle.act.proofs.Actions.{joins-ready}
 use Rattle.act.proofs.Actions.{request-joins, request-lends, request-goes}
-use borrow.Author.Rules.{rules}
 use Rattle.act.proofs.acts.take_request.Goals as goal
 
 pub serve-requires : goal.serve-requires

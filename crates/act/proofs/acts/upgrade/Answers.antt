@@ -1,5 +1,4 @@
 use Rattle.act.proofs.Actions.{upgrade-holds, upgrade-waits}
-use borrow.Author.Rules.{rules}
 use Rattle.act.proofs.acts.upgrade.Goals as goal
 
 pub returns-then-has_no_entries : goal.returns-then-has_no_entries

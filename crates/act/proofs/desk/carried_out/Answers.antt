@@ -1,5 +1,4 @@
 use Rattle.act.proofs.Turns.{carried-stop, carried-hold, carried-lend, carried-pass}
-use borrow.Author.Rules.{rules}
 use Rattle.act.proofs.desk.carried_out.Goals as goal
 
 pub returns-in-Stop : goal.returns-in-Stop

@@ -1,5 +1,4 @@
 use Rattle.act.proofs.Desks.{change-nothing, change-reduce}
-use borrow.Author.Rules.{rules}
 use Rattle.act.proofs.desk.change.Goals as goal
 
 pub returns-in-Nothing : goal.returns-in-Nothing

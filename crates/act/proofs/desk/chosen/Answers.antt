@@ -1,5 +1,4 @@
 use Rattle.act.proofs.Turns.{choice-waits, choice-conflict, choice-hold, choice-lend, choice-pass}
-use borrow.Author.Rules.{rules}
 use Rattle.act.proofs.desk.chosen.Goals as goal
 
 pub returns-then-upgrade_waits : goal.returns-then-upgrade_waits

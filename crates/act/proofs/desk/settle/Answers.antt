@@ -1,5 +1,4 @@
 use Rattle.act.proofs.Desks.{settle_is}
-use borrow.Author.Rules.{rules}
 use Rattle.act.proofs.desk.settle.Goals as goal
 
 pub returns : goal.returns

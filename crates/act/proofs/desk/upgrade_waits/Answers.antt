@@ -1,4 +1,3 @@
-use borrow.Author.Rules.{rules}
 use Rattle.act.proofs.Desks.{waits-both, waits-not}
 use Rattle.act.proofs.desk.upgrade_waits.Goals as goal
 

@@ -1,5 +1,4 @@
 use Rattle.act.proofs.Desks.{upgraded-none, upgraded-lent, upgraded-holds}
-use borrow.Author.Rules.{rules}
 use Rattle.act.proofs.desk.upgraded.Goals as goal
 
 pub returns-then-not-upgrade_waits : goal.returns-then-not-upgrade_waits
