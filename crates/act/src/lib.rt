@@ -1,5 +1,6 @@
 // What one room does in a step: from its record and the queue to its record, the queue and the messages that it sends.
 #![tactic(auto)]
+
 ghost use Rattle.std.specs.Prelude.{◌≡◌};
 ghost use Rattle.rules.specs.Rules as rules;
 ghost use Rattle.act.specs.Done.{start_of, done_of, Lays};

@@ -1,5 +1,6 @@
 // Reading a line: `n 3`, `a 1 R`, `u 1`, `h 1`, `d 0 1`, and every other byte string.
 #![tactic(auto)]
+
 ghost use Rattle.std.specs.Prelude.{◌≡◌, length};
 ghost use Rattle.reading.specs.Lines.{digit_of, number_of, short_mode, intent_of, mode_of, before, behind, fresh_command, own_command, ask_command, deliver_command, command_of};
 

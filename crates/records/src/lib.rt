@@ -1,5 +1,6 @@
 // The rooms' records: each as it should be, or blank, and what is seen of them.
 #![tactic(auto)]
+
 ghost use Rattle.std.specs.Prelude.{◌≡◌};
 ghost use Rattle.table.specs.Formed.{entry_fine, entries_fine, holds_rightly, owes_rightly, is_blank_room};
 ghost use Rattle.records.specs.Parts.{room_place_fine};

@@ -1,0 +1,9 @@
+use borrow.Author.Rules.{rules}
+use Rattle.records.proofs.Laws.{standing-free, standing-held}
+use Rattle.records.proofs.standing_of.Goals as goal
+
+pub returns-in-0 : goal.returns-in-0
+returns-in-0 c = search (rules, standing-free)
+
+pub returns-in-1-to-255 : goal.returns-in-1-to-255
+returns-in-1-to-255 c = search (rules, standing-held)
