@@ -5,7 +5,7 @@ LC_ALL=C
 export LC_ALL
 root=$(cd "$(dirname "$0")/.." && pwd)
 built=$root/target/compare
-punkurel=$root/target/bin/punkurel
+punkurel=$root/crates/punkurel/out/punkurel
 
 warnings="-std=c11 -g -Wall -Wextra -Wpedantic -Wconversion -Werror"
 sanitizers="-O1 -fsanitize=address,undefined -fno-sanitize-recover=all"
@@ -49,7 +49,7 @@ build_generate() {
 }
 
 need_punkurel() {
-    [ -x "$punkurel" ] || fail "$punkurel is missing; it has to be built first"
+    [ -x "$punkurel" ] || fail "$punkurel is missing; it has to be built first, by rt run in crates/punkurel"
 }
 
 # report EXPECTED ANSWERS: the first line in which they differ.

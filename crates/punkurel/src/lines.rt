@@ -4,7 +4,7 @@ ghost use Rattle.session.specs.Known.{Known};
 ghost use Rattle.writing.specs.Written.{line_limit};
 ghost use Rattle.punkurel.specs.Kept.{kept_limit};
 
-use libc::STDOUT_FILENO;
+use memchr::memchr;
 use session::Turned;
 use table::Table;
 use writing::LINE;
@@ -112,19 +112,19 @@ pub struct Pen {
 
 // Whether what was answered could be written; after a write that failed no other is made, so that nothing is left out in between.
 // Only for proved callers in this module: the pen is not past the end of out.
-fn flushed(out: &[u8], pen: Pen) -> bool
+fn flushed(rt: &impl Print, out: &[u8], pen: Pen) -> bool
     requires { pen.at ≤ length out.now }
 {
     if !pen.open {
         return false;
     }
     let at = pen.at;
-    io::write_all(STDOUT_FILENO, &out[..at])
+    rt.write_all(&out[..at]).is_ok()
 }
 
 // The pen behind an answer of n bytes, with room for another answer.
 // Only for take, which is proved: out has room for an answer at the pen.
-fn moved(out: &[u8], pen: Pen, n: usize) -> Pen
+fn moved(rt: &impl Print, out: &[u8], pen: Pen, n: usize) -> Pen
     requires { pen.at + line_limit ≤ length out.now }
     ensures { result.at + line_limit ≤ length out.now }
 {
@@ -136,13 +136,26 @@ fn moved(out: &[u8], pen: Pen, n: usize) -> Pen
     if at + LINE <= out.len() {
         return next;
     }
-    let open = flushed(out, next);
+    let open = flushed(rt, out, next);
     Pen { at: 0, open: open }
+}
+
+// The place of the first line feed from a place on; the end of the bytes where there is none.
+// Only for take, which is proved: the place is in the bytes or at their end.
+fn line_end(bytes: &[u8], from: usize) -> usize
+    requires { from ≤ length bytes.now }
+    ensures low { from ≤ result }
+    ensures high { result ≤ length bytes.now }
+{
+    match memchr(b'\n', &bytes[from..]) {
+        Some(n) => from + n,
+        None => bytes.len(),
+    }
 }
 
 // The answers of all lines that are whole now, written out; the rest is kept.
 // Only for main, which is proved: out holds an answer at least, and the table is one that the session made.
-pub fn take(mut talk: Talk, chunk: &[u8], out: &mut [u8]) -> Talk
+pub fn take(rt: &impl Print, mut talk: Talk, chunk: &[u8], out: &mut [u8]) -> Talk
     requires line_limit_in_bounds { line_limit ≤ length out.old }
     requires known { Known talk.table }
     ensures { Known result.table }
@@ -151,26 +164,26 @@ pub fn take(mut talk: Talk, chunk: &[u8], out: &mut [u8]) -> Talk
     let mut begun = talk.begun;
     let mut pen = Pen { at: 0, open: true };
     let mut from: usize = 0;
-    let mut end = bytes::scan::find(chunk, 0, chunk.len(), b'\n');
+    let mut end = line_end(chunk, 0);
     while end < chunk.len() {
         let next = end + 1;
         let at = pen.at;
         let turned = turn(t, begun, &chunk[from..end], &mut out[at..]);
         t = turned.table;
         begun = nothing();
-        pen = moved(out, pen, turned.length);
+        pen = moved(rt, out, pen, turned.length);
         from = next;
-        end = bytes::scan::find(chunk, from, chunk.len(), b'\n');
+        end = line_end(chunk, from);
     }
     talk.table = t;
     talk.begun = with(begun, &chunk[from..]);
-    talk.open = flushed(out, pen);
+    talk.open = flushed(rt, out, pen);
     talk
 }
 
 // The input has ended: the last line is answered, where it lacks its feed.
 // Only for main, which is proved: out holds an answer at least, and the table is one that the session made.
-pub fn end(talk: Talk, out: &mut [u8])
+pub fn end(rt: &impl Print, talk: Talk, out: &mut [u8])
     requires line_limit_in_bounds { line_limit ≤ length out.old }
     requires known { Known talk.table }
 {
@@ -184,5 +197,5 @@ pub fn end(talk: Talk, out: &mut [u8])
         at: least(turned.length, LINE),
         open: talk.open,
     };
-    flushed(out, pen);
+    flushed(rt, out, pen);
 }

@@ -17,7 +17,7 @@ fn with_entry(mut r: Room, c: Command) -> Room {
 }
 
 // A record with another field, or another entry.
-fn changed_room(mut r: Room, c: Command) -> Room {
+fn changed_room(rt: &impl Print, mut r: Room, c: Command) -> Room {
     let value = byte(c.b);
     let word = c.word;
     match word {
@@ -46,17 +46,17 @@ fn changed_room(mut r: Room, c: Command) -> Room {
             r.counter = link(c.b);
         }
         words::ENTRY => return with_entry(r, c),
-        _ => words::unknown(),
+        _ => words::unknown(rt),
     }
     r
 }
 
 // A room's record is changed.
-fn with_room(mut t: Table, c: Command) -> Table {
+fn with_room(rt: &impl Print, mut t: Table, c: Command) -> Table {
     let at = c.a;
     if at < ROOMS {
         let mut r = t.rooms[at];
-        r = changed_room(r, c);
+        r = changed_room(rt, r, c);
         t.rooms[at] = r;
     }
     t
@@ -138,7 +138,7 @@ fn queued(room: usize, mode: usize) -> Queued {
 }
 
 // A table with another queue, other messages, other sizes, or another record of a room. A message is laid on the wire given.
-pub fn changed(t: Table, wire: usize, c: Command) -> Table {
+pub fn changed(rt: &impl Print, t: Table, wire: usize, c: Command) -> Table {
     let word = c.word;
     match word {
         words::REQUEST | words::GRANT | words::PASS | words::REDUCE | words::NOTHING => {
@@ -148,6 +148,6 @@ pub fn changed(t: Table, wire: usize, c: Command) -> Table {
         words::JOIN => with_place(t, QUEUE, queued(c.a, c.b)),
         words::PLACE => with_place(t, c.a, queued(c.b, c.c)),
         words::ROOMS | words::QUEUED | words::COUNT => with_size(t, c),
-        _ => with_room(t, c),
+        _ => with_room(rt, t, c),
     }
 }

@@ -67,7 +67,7 @@ fn event(c: Command) -> Event {
 }
 
 // What a command gives back: the answer to an event, or a fresh table; 0 with a table that is changed by hand.
-fn answer(t: Table, wire: usize, c: Command) -> Answer {
+fn answer(rt: &impl Print, t: Table, wire: usize, c: Command) -> Answer {
     let word = c.word;
     match word {
         words::NEW | words::FRESH => table::fresh(byte(c.a)),
@@ -76,15 +76,15 @@ fn answer(t: Table, wire: usize, c: Command) -> Answer {
         }
         _ => Answer {
             number: 0,
-            table: change::changed(t, wire, c),
+            table: change::changed(rt, t, wire, c),
         },
     }
 }
 
 // A command on the table at hand. That a refused table comes back as it came is proved of the step, and not looked at here.
-fn answered(mut d: Desk, c: Command) -> Desk {
+fn answered(rt: &impl Print, mut d: Desk, c: Command) -> Desk {
     let mut t = d.tables[HAND];
-    let a = answer(t, d.wire, c);
+    let a = answer(rt, t, d.wire, c);
     t = a.table;
     d.tables[HAND] = t;
     d.wire = WIRES;
@@ -93,7 +93,7 @@ fn answered(mut d: Desk, c: Command) -> Desk {
 }
 
 // A command is carried out.
-pub fn obey(mut d: Desk, c: Command) -> Desk {
+pub fn obey(rt: &impl Print, mut d: Desk, c: Command) -> Desk {
     let word = c.word;
     match word {
         words::KEEP => copied(d, HAND, c.a),
@@ -102,6 +102,6 @@ pub fn obey(mut d: Desk, c: Command) -> Desk {
             d.wire = c.a;
             d
         }
-        _ => answered(d, c),
+        _ => answered(rt, d, c),
     }
 }

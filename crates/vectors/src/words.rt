@@ -60,6 +60,6 @@ pub const QUEUED: u64 = 0x71_75_65_75_65_64; // queued
 pub const COUNT: u64 = 0x63_6f_75_6e_74; // count
 
 // A word that is none of these: what is printed is then not what is expected.
-pub fn unknown() {
-    io::write_all(libc::STDOUT_FILENO, b"a word not understood\n");
+pub fn unknown(rt: &impl Print) {
+    let _ = println!(rt; "a word not understood");
 }
