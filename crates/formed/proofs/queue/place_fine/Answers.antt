@@ -1,5 +1,8 @@
 use Rattle.formed.proofs.queue.Laws.{place-mode, place-room, place-past, place_none, place-due}
 use borrow.Author.Rules.{rules}
+use native.Mathlib.Omega.{arith}
+use mathlib.Core.Path.{ap}
+use mathlib.Core.Bool.{not}
 use Rattle.formed.proofs.queue.place_fine.Goals as goal
 
 pub returns-then-q-eq0 : goal.returns-then-q-eq0
@@ -15,4 +18,4 @@ pub returns-then-not-is_mode : goal.returns-then-not-is_mode
 returns-then-not-is_mode c = search (rules, place_none)
 
 pub returns : goal.returns
-returns c = search (rules, place-due)
+returns c = place-due _ _ _ _ (ap not c.if-not-used.false) _ c.is_mode.ensures (omega arith) (ap not c.if-not-is_mode.false) _ c.standing_at-room.ensures

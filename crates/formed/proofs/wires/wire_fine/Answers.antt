@@ -1,5 +1,8 @@
 use Rattle.formed.proofs.wires.Laws.{wire-unused, wire-from, wire-to, wire-self, wire-message, wire-names}
 use borrow.Author.Rules.{rules}
+use native.Mathlib.Omega.{arith}
+use mathlib.Core.Path.{ap}
+use mathlib.Core.Bool.{not}
 use Rattle.formed.proofs.wires.wire_fine.Goals as goal
 
 pub returns-then-not-used : goal.returns-then-not-used
@@ -12,10 +15,10 @@ pub returns-then-w-n-2 : goal.returns-then-w-n-2
 returns-then-w-n-2 c = search (rules, wire-to)
 
 pub returns-then-w : goal.returns-then-w
-returns-then-w c = search (rules, wire-self)
+returns-then-w c = wire-self _ _ _ _ (ap not c.if-not-used.false) (omega arith)
 
 pub returns-then-not-message_fine : goal.returns-then-not-message_fine
-returns-then-not-message_fine c = search (rules, wire-message)
+returns-then-not-message_fine c = wire-message _ _ _ _ (ap not c.if-not-used.false) _ c.message_fine.ensures (ap not c.if-not-message_fine.true)
 
 pub returns : goal.returns
-returns c = search (rules, wire-names)
+returns c = wire-names _ _ _ _ (ap not c.if-not-used.false) _ c.message_fine.ensures (omega arith) (omega arith) (omega arith) (ap not c.if-not-message_fine.false) _ c.names_rightly.ensures
