@@ -10,7 +10,7 @@ use Rattle.kept.specs.Start.{formed-of}
 use Rattle.facts.specs.Moments.{Formed}
 use Rattle.facts.specs.Accepted.{unrefused}
 use Rattle.measure.specs.Squeeze.{squeeze, squeeze-below, leads-squeezed}
-use Rattle.measure.specs.Bound.{potential-bound}
+use Rattle.measure.proofs.Bound.{potential-bound}
 use Rattle.safe.specs.Reached.{Reached}
 use Rattle.safe.specs.Step.{Safe, facts, messages-count}
 use Rattle.safe.proofs.Always.{reached-safe, fresh_start}

@@ -3,3 +3,4 @@ pub mod Piles
 pub mod Loads
 pub mod Moves
 pub mod Falls
+pub mod Bound

@@ -3,4 +3,3 @@ pub mod Heights
 pub mod Squeeze
 pub mod Start
 pub mod Measure
-pub mod Bound

@@ -1,5 +1,6 @@
 // Writing an answer: the number, the token's room or `*`, the messages on the wires, and each room's held mode.
 #![tactic(auto)]
+
 ghost use Rattle.std.specs.Prelude.{◌≡◌, ◌+◌, ◌≤◌, min, ◌∷◌, map, length, take};
 ghost use Rattle.base.specs.Letters.{space};
 ghost use Rattle.room.specs.Limits.{room_limit};
