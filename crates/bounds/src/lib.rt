@@ -1,2 +1,2 @@
-// Theorems only, all of them in specs/: how many messages there can be, and how far the counters can go.
+// Theorems only, in specs/ and proofs/: how many messages there can be, and how far the counters can go.
 #![tactic(auto)]

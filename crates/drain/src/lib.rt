@@ -1,2 +1,2 @@
-// Theorems only, all of them in specs/: if nobody asks or upgrades any more, the table comes to rest, and everyone has been served.
+// Theorems only, in specs/ and proofs/: if nobody asks or upgrades any more, the table comes to rest, and everyone has been served.
 #![tactic(auto)]

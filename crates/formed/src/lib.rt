@@ -1,5 +1,6 @@
 // The test of well-formedness. Each room, each place of the queue and each wire is looked at once.
 #![tactic(auto)]
+
 ghost use Rattle.std.specs.Prelude.{◌≡◌, ◌≤◌, ltb};
 ghost use Rattle.base.specs.Sums.{one};
 ghost use Rattle.room.specs.Limits.{room_limit};

@@ -1,2 +1,2 @@
-// Theorems only, all of them in specs/: what every loan is worth, as the lender and as the borrower have it, with what is on the wires.
+// Theorems only, in specs/ and proofs/: what every loan is worth, as the lender and as the borrower have it, with what is on the wires.
 #![tactic(auto)]

@@ -1,2 +1,2 @@
-// Theorems only, all of them in specs/: the measure that every delivery and every hand-back lowers, and how large it can be.
+// Theorems only, in specs/ and proofs/: the measure that every delivery and every hand-back lowers, and how large it can be.
 #![tactic(auto)]

@@ -1,6 +1,7 @@
 // What a step is going to do, worked out on the table as it came: the first refusal that applies, or what the rules make of one room.
 // Nothing is written here.
 #![tactic(auto)]
+
 ghost use Rattle.std.specs.Prelude.{◌≡◌, true, ◌&&◌};
 ghost use Rattle.rules.specs.Events as events;
 ghost use Rattle.plan.specs.Plans.{start_at, made_plan, refused_plan, placed, plan_as, Begins};

@@ -1,5 +1,6 @@
 // A run: events made one after another from a fresh table. Its contract carries what holds of every table that events lead to.
 #![tactic(auto)]
+
 ghost use Rattle.std.specs.Prelude.{◌≡◌};
 ghost use Rattle.rules.specs.Step.{runs};
 ghost use Rattle.run.specs.Runs.{events_of, Ran};

@@ -1,2 +1,2 @@
-// Theorems only, all of them in specs/: from a fresh table there is always one token, and modes held by two rooms agree.
+// Theorems only, in specs/ and proofs/: from a fresh table there is always one token, and modes held by two rooms agree.
 #![tactic(auto)]

@@ -1,2 +1,2 @@
-// Theorems only, all of them in specs/: what each of the shortcuts that look right leads to.
+// Theorems only, in specs/ and proofs/: what each of the shortcuts that look right leads to.
 #![tactic(auto)]

@@ -1,6 +1,7 @@
 // The step: the first refusal that applies, or the table that the rules give. What is to be done is planned on the table as it came;
 // nothing is written until the step is known to be made.
 #![tactic(auto)]
+
 ghost use Rattle.std.specs.Prelude.{◌≡◌};
 ghost use Rattle.rules.specs.Step.{step_of};
 ghost use Rattle.table.specs.Formed.{well_formed};
@@ -37,8 +38,8 @@ fn ending(count: usize, p: Plan) -> u8
 
 // One step by any event, without the test of the table: formed tells whether t is well formed. Told rightly it gives the answer of step.
 pub fn step_untested(t: Table, e: Event, formed: bool) -> Answer
-    ensures value { result ≡ step_as formed t e }
-    ensures value_2 { formed ≡ well_formed t → result ≡ step_of t e }
+    ensures as_told { result ≡ step_as formed t e }
+    ensures told_rightly { formed ≡ well_formed t → result ≡ step_of t e }
 {
     let p = plan::planned(t, e, formed);
     let count = t.count;

@@ -1,0 +1,15 @@
+use Rattle.table.specs.Limits.{queue_limit}
+use borrow.Author.Rules.{rules}
+use native.Mathlib.Omega.{arith}
+use mathlib.Core.Path.{◌≡◌, refl, ◌∙◌, sym}
+use Prim.Native.Nat.{◌≤◌, ◌-◌}
+use lib.ListN.{length, take, length-set}
+use lib.Seq.{take_all}
+use Rattle.act.proofs.Laying.{lay-more}
+use Rattle.step.proofs.write.shorter.Given as goal
+
+abbrev pub invariant-loop-i : goal.invariant-loop-i
+invariant-loop-i l = (l.i ≤ queue_limit) × (length l.short ≡ queue_limit) × (take l.i l.short ≡ take l.i l.queue)
+
+abbrev pub decreases-loop-i : goal.decreases-loop-i
+decreases-loop-i l = queue_limit - l.i

@@ -1,0 +1,16 @@
+use borrow.Author.Rules.{rules}
+use native.Mathlib.Omega.{arith}
+use mathlib.Core.Logic.{⊎_elim}
+use Prim.Native.Nat.{◌≤◌, ◌-◌}
+use lib.ListN.{take}
+use Rattle.table.proofs.Known.{wires-long}
+use Rattle.step.proofs.Known.{plan-out-long}
+use Rattle.step.proofs.Splice.{target, Mid, mid_start, mid-more, goal-moved, goal-sent, goal-past, written_is}
+use Rattle.step.proofs.write.written.Given as goal
+
+abbrev pub invariant-loop-i : goal.invariant-loop-i
+invariant-loop-i l =
+    (l.initial.i ≤ l.i) × (l.i ≤ l.end) × Mid l.initial.u (target (take l.old l.initial.u.wires) l.initial.i l.gap (take l.d.sent l.d.out)) l.i l.u
+
+abbrev pub decreases-loop-i : goal.decreases-loop-i
+decreases-loop-i l = l.end - l.i
