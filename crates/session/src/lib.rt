@@ -1,5 +1,6 @@
 // The session: one line in, one line out. A table goes from line to line, and before the first accepted `n` it is the blank one.
 #![tactic(auto)]
+
 ghost use Rattle.std.specs.Prelude.{◌≡◌, not, eqb};
 ghost use Rattle.table.specs.Formed.{well_formed};
 ghost use Rattle.table.specs.Tables.{fresh_of};
@@ -53,8 +54,8 @@ fn other(t: Table) -> Answer
 
 // What a line asks for is done, or refused; formed tells whether t is well formed.
 fn obey(t: Table, c: Command, formed: bool) -> Answer
-    ensures value { result ≡ obeyed_as formed t c }
-    ensures value_2 { formed ≡ well_formed t → result ≡ obeyed t c }
+    ensures as_told { result ≡ obeyed_as formed t c }
+    ensures told_rightly { formed ≡ well_formed t → result ≡ obeyed t c }
 {
     match c {
         Command::Other => other(t),
@@ -65,8 +66,8 @@ fn obey(t: Table, c: Command, formed: bool) -> Answer
 
 // A turn; formed tells whether t is well formed.
 fn answer(t: Table, formed: bool, line: &[u8], out: &mut [u8]) -> Turned
-    ensures leaves { Leaves t (answer_as formed t line.now) out.old result out.new }
-    ensures leaves_2 { formed ≡ well_formed t → Leaves t (answer_to t line.now) out.old result out.new }
+    ensures as_told { Leaves t (answer_as formed t line.now) out.old result out.new }
+    ensures told_rightly { formed ≡ well_formed t → Leaves t (answer_to t line.now) out.old result out.new }
 {
     if out.len() < LINE {
         return Turned {
@@ -94,8 +95,8 @@ pub fn turn(t: Table, line: &[u8], out: &mut [u8]) -> Turned
 // A turn without the test of the table: one with rooms is taken for well formed. On a table that a session makes it is the same turn,
 // and the next table is such a one too.
 pub fn turn_known(t: Table, line: &[u8], out: &mut [u8]) -> Turned
-    ensures leaves { Leaves t (answer_as (not (eqb t.n 0)) t line.now) out.old result out.new }
-    ensures leaves_2 { Known t → Leaves t (answer_to t line.now) out.old result out.new × Known result.table }
+    ensures as_taken { Leaves t (answer_as (not (eqb t.n 0)) t line.now) out.old result out.new }
+    ensures known { Known t → Leaves t (answer_to t line.now) out.old result out.new × Known result.table }
 {
     let started = t.n != 0;
     answer(t, started, line, out)

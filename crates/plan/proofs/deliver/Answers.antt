@@ -5,7 +5,7 @@ use borrow.Author.Rules.{rules}
 use Rattle.plan.proofs.deliver.Goals as goal
 
 pub returns-then-e-t : goal.returns-then-e-t
-returns-then-e-t c = refused-is _ _ true 3 (λ q. omega arith) (search (rules, deliver-to)) _ c.refused.ensures
+returns-then-e-t c = refused-is _ _ true 3 (λ q. omega arith) (search deliver-to) _ c.refused.ensures
 
 pub returns-in_default : goal.returns-in_default
 returns-in_default c = refused-is _ _ true 8 (λ q. omega arith) (deliver-empty _ _ (search rules) (omega arith) _ c.oldest.ensures c.in_default.is) _ c.refused-in_default.ensures

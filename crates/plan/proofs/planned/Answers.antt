@@ -3,7 +3,6 @@ use mathlib.Core.Bool.{true, not, ◌&&◌}
 use mathlib.Core.Path.{ap}
 use Rattle.plan.specs.Plans.{placed}
 use Rattle.plan.proofs.Numbers.{refused-is, no_table, told-not, rooms-over, messages-over, no-event, no_room_lem, told_is}
-use borrow.Author.Rules.{rules}
 use Rattle.plan.proofs.planned.Goals as goal
 
 pub returns-then-not-formed : goal.returns-then-not-formed
@@ -49,13 +48,13 @@ pub deliver-requires : goal.deliver-requires
 deliver-requires c = record { low = omega arith; room = omega arith; kind = omega arith }
 
 pub returns-in-0 : goal.returns-in-0
-returns-in-0 c = search (rules, told_is)
+returns-in-0 c = search told_is
 
 pub returns-in-1 : goal.returns-in-1
-returns-in-1 c = search (rules, told_is)
+returns-in-1 c = search told_is
 
 pub returns-in-2 : goal.returns-in-2
-returns-in-2 c = search (rules, told_is)
+returns-in-2 c = search told_is
 
 pub returns-in_default-kind : goal.returns-in_default-kind
-returns-in_default-kind c = search (rules, told_is)
+returns-in_default-kind c = search told_is
