@@ -34,7 +34,7 @@ returns-then-r-ge-WORN_COUNTER c =
     let k = c.loop-i in
     let s = c in
     refused-is _ _ true 10 (λ q. omega arith)
-    (ask-worn _ _ s.requires (omega arith) (omega arith) c.in-0.is c.in-0-held.is c.if-t-ge-BUSY_MESSAGES.false
+    (ask-worn _ _ s.requires (omega arith) (omega arith) c.in-0.is c.in-0-held.is (omega arith)
     (all-fails (fresh s.args.t) _ k.i c.loop-i-test.true (le-ltb _ _ c.if-r-ge-WORN_COUNTER.true))) _ c.refused-then-r-ge-WORN_COUNTER.ensures
 
 pub loop-i-preserved : goal.loop-i-preserved
@@ -47,5 +47,5 @@ returns c =
     let k = c.loop-i in
     let s = c in
     let all : k.i ≡ s.args.t.n = omega (arith, c.loop-i-test.false, k.invariant.0) in
-    ask-is _ _ s.requires (ask-made _ _ s.requires (omega arith) (omega arith) c.in-0.is c.in-0-held.is c.if-t-ge-BUSY_MESSAGES.false (rw all at k.invariant.1))
+    ask-is _ _ s.requires (ask-made _ _ s.requires (omega arith) (omega arith) c.in-0.is c.in-0-held.is (omega arith) (rw all at k.invariant.1))
     _ c.start-s.ensures _ c.ask-done.ensures _ c.made.ensures
