@@ -1,1 +1,1 @@
-pub mod Known
+mod Places

@@ -1,5 +1,6 @@
 // Bytes into lines, in whatever pieces they come, and the answers out.
-ghost use Rattle.std.specs.Prelude.{◌≡◌, ◌+◌, ◌≤◌, length};
+ghost use Rattle.std.specs.Prelude.{◌≡◌, ◌+◌, ◌<◌, ◌≤◌, length};
+ghost use Rattle.memchr.specs.Find.{Nowhere, Passes, is_byte};
 ghost use Rattle.session.specs.Known.{Known};
 ghost use Rattle.writing.specs.Written.{line_limit};
 ghost use Rattle.punkurel.specs.Kept.{kept_limit};
@@ -11,6 +12,9 @@ use writing::LINE;
 
 // A line of at most 64 bytes can be of a known form; what is kept of a longer one is longer than that.
 const KEPT: usize = 65;
+
+// The byte that ends a line.
+const FEED: u8 = b'\n';
 
 // A line of which not all has come yet: its first bytes.
 #[derive(Clone, Copy)]
@@ -146,8 +150,10 @@ fn line_end(bytes: &[u8], from: usize) -> usize
     requires { from ≤ length bytes.now }
     ensures low { from ≤ result }
     ensures high { result ≤ length bytes.now }
+    ensures none_before { Nowhere (Passes (is_byte FEED) bytes.now) from result }
+    ensures found { result < length bytes.now → Passes (is_byte FEED) bytes.now result }
 {
-    match memchr(b'\n', &bytes[from..]) {
+    match memchr(FEED, &bytes[from..]) {
         Some(n) => from + n,
         None => bytes.len(),
     }
