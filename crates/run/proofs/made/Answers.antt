@@ -1,8 +1,6 @@
-use Prim.Native.Nat.{◌-◌}
-use lib.ListN.{length}
 use native.Mathlib.Omega.{arith}
 use borrow.Author.Rules.{rules}
-use Rattle.run.proofs.Events.{Before, before-none, before_more, before-all}
+use Rattle.run.proofs.Events.{before-none, before_more, before-all}
 use Rattle.run.proofs.made.Goals as goal
 
 pub loop-at-init : goal.loop-at-init

@@ -1,8 +1,6 @@
 use Prim.Native.Nat.{◌-◌}
 use lib.ListN.{length}
-use native.Mathlib.Omega.{arith}
-use borrow.Author.Rules.{rules}
-use Rattle.run.proofs.Events.{Before, before-none, before_more, before-all}
+use Rattle.run.proofs.Events.{Before}
 use Rattle.run.proofs.made.Given as goal
 
 abbrev pub invariant-loop-at : goal.invariant-loop-at

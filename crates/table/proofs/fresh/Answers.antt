@@ -1,6 +1,5 @@
 use native.Mathlib.Omega.{arith}
 use Rattle.table.proofs.Laws.{fresh-done, fresh-low, fresh-high}
-use borrow.Author.Rules.{rules}
 use Rattle.table.proofs.fresh.Goals as goal
 use Rattle.table.proofs.fresh.Goals.{in_default-via-then-n-lt1, in_default-via-else-n-lt1+else-n-lt17}
 

@@ -1,11 +1,7 @@
-use Rattle.table.specs.Limits.{wire_limit}
 use borrow.Author.Rules.{rules}
 use native.Mathlib.Omega.{arith}
-use mathlib.Core.Path.{◌≡◌, ◌∙◌}
-use Prim.Native.Nat.{◌≤◌, ◌-◌}
-use lib.ListN.{drop, length-take}
-use Rattle.table.specs.Tables.{messages_of}
-use Rattle.table.specs.Oldest.{oldest_in, oldest_of}
+use mathlib.Core.Path.{◌∙◌}
+use lib.ListN.{length-take}
 use Rattle.table.proofs.Known.{wires-long}
 use Rattle.table.proofs.Laws.{search-end, search-here, search-from, search-to, oldest-start}
 use Rattle.table.proofs.oldest.Goals as goal

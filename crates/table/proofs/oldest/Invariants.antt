@@ -1,14 +1,9 @@
 use Rattle.table.specs.Limits.{wire_limit}
-use borrow.Author.Rules.{rules}
-use native.Mathlib.Omega.{arith}
-use mathlib.Core.Path.{◌≡◌, ◌∙◌}
-use mathlib.Core.Logic.{⊎_elim}
+use mathlib.Core.Path.{◌≡◌}
 use Prim.Native.Nat.{◌≤◌, ◌-◌}
-use lib.ListN.{drop, length-take}
+use lib.ListN.{drop}
 use Rattle.table.specs.Tables.{messages_of}
 use Rattle.table.specs.Oldest.{oldest_in, oldest_of}
-use Rattle.table.proofs.Known.{wires-long}
-use Rattle.table.proofs.Laws.{search-end, search-here, search-from, search-to, oldest-start}
 use Rattle.table.proofs.oldest.Given as goal
 
 abbrev pub invariant-loop-i : goal.invariant-loop-i

@@ -1,16 +1,12 @@
 use Rattle.room.specs.Limits.{room_limit}
-use borrow.Author.Rules.{rules}
-use native.Mathlib.Omega.{arith}
-use mathlib.Core.Path.{◌≡◌, refl, sym, ◌∙◌}
+use mathlib.Core.Path.{◌≡◌}
 use Prim.Native.Nat.{◌≤◌, ◌-◌}
 use Prim.Native.Nat.{ℕ}
 use mathlib.Core.Bool.{Bool, true}
 use lib.Dec.{eqb}
-use borrow.Author.Tests.{eq-eqb, ne_eqb}
-use Rattle.base.specs.Below.{all_below, all_more, all-fails}
+use Rattle.base.specs.Below.{all_below}
 use Rattle.room.specs.declared.Room.{Room}
 use Rattle.room.specs.Record.{entry_at}
-use Rattle.room.proofs.Laws.{no-entries-all}
 use Rattle.room.proofs.Room.has_no_entries.Given as goal
 
 -- the test of one entry

@@ -2,8 +2,6 @@ use Rattle.room.specs.Limits.{room_limit}
 use borrow.Author.Rules.{rules}
 use native.Mathlib.Omega.{arith}
 use mathlib.Core.Path.{◌≡◌}
-use Prim.Native.Nat.{◌≤◌, ◌-◌}
-use Rattle.room.specs.Owned.{strongest}
 use Rattle.room.proofs.Laws.{strongest-none, strongest-more, owned-strongest}
 use Rattle.room.proofs.Room.owned.Goals as goal
 

@@ -1,10 +1,7 @@
 use Rattle.room.specs.Limits.{room_limit}
-use borrow.Author.Rules.{rules}
-use native.Mathlib.Omega.{arith}
 use mathlib.Core.Path.{◌≡◌}
 use Prim.Native.Nat.{◌≤◌, ◌-◌}
 use Rattle.room.specs.Owned.{strongest}
-use Rattle.room.proofs.Laws.{strongest-none, strongest-more, owned-strongest}
 use Rattle.room.proofs.Room.owned.Given as goal
 
 abbrev pub invariant-loop-i : goal.invariant-loop-i

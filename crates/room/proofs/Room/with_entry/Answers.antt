@@ -1,7 +1,6 @@
 use native.Mathlib.Omega.{arith}
 use Rattle.room.proofs.Known.{entries-long}
 use Rattle.room.proofs.Laws.{set_past}
-use borrow.Author.Rules.{rules}
 use Rattle.room.proofs.Room.with_entry.Goals as goal
 
 pub returns : goal.returns

@@ -1,8 +1,6 @@
-use Prim.Native.Nat.{◌-◌}
-use lib.ListN.{length}
 use borrow.Author.Rules.{rules}
 use native.Mathlib.Omega.{arith}
-use Rattle.run.proofs.Drains.{Draining, draining-none, after-low, draining-more, draining-all}
+use Rattle.run.proofs.Drains.{draining-none, after-low, draining-more, draining-all}
 use Rattle.run.proofs.draining.drain.Goals as goal
 
 pub loop-at-init : goal.loop-at-init

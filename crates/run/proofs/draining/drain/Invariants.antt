@@ -1,8 +1,6 @@
 use Prim.Native.Nat.{◌-◌}
 use lib.ListN.{length}
-use borrow.Author.Rules.{rules}
-use native.Mathlib.Omega.{arith}
-use Rattle.run.proofs.Drains.{Draining, draining-none, after-low, draining-more, draining-all}
+use Rattle.run.proofs.Drains.{Draining}
 use Rattle.run.proofs.draining.drain.Given as goal
 
 abbrev pub invariant-loop-at : goal.invariant-loop-at

@@ -2,8 +2,7 @@ use Rattle.table.specs.Limits.{queue_limit}
 use borrow.Author.Rules.{rules}
 use native.Mathlib.Omega.{arith}
 use mathlib.Core.Path.{◌≡◌, refl, ◌∙◌, sym}
-use Prim.Native.Nat.{◌≤◌, ◌-◌}
-use lib.ListN.{length, take, length-set}
+use lib.ListN.{length-set}
 use lib.Seq.{take_all}
 use Rattle.act.proofs.Laying.{lay-more}
 use Rattle.step.proofs.write.shorter.Goals as goal

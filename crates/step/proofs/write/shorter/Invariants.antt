@@ -1,11 +1,7 @@
 use Rattle.table.specs.Limits.{queue_limit}
-use borrow.Author.Rules.{rules}
-use native.Mathlib.Omega.{arith}
-use mathlib.Core.Path.{◌≡◌, refl, ◌∙◌, sym}
+use mathlib.Core.Path.{◌≡◌}
 use Prim.Native.Nat.{◌≤◌, ◌-◌}
-use lib.ListN.{length, take, length-set}
-use lib.Seq.{take_all}
-use Rattle.act.proofs.Laying.{lay-more}
+use lib.ListN.{length, take}
 use Rattle.step.proofs.write.shorter.Given as goal
 
 abbrev pub invariant-loop-i : goal.invariant-loop-i

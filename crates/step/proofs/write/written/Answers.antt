@@ -1,10 +1,7 @@
-use borrow.Author.Rules.{rules}
 use native.Mathlib.Omega.{arith}
-use Prim.Native.Nat.{◌≤◌, ◌-◌}
-use lib.ListN.{take}
 use Rattle.table.proofs.Known.{wires-long}
 use Rattle.step.proofs.Known.{plan-out-long}
-use Rattle.step.proofs.Splice.{target, Mid, mid_start, mid-more, goal-moved, goal-sent, goal-past, written_is}
+use Rattle.step.proofs.Splice.{mid_start, mid-more, goal-moved, goal-sent, goal-past, written_is}
 use Rattle.step.proofs.write.written.Goals as goal
 use Rattle.step.proofs.write.written.Goals.{then-i-kept, else-i-kept+then-i-count, else-i-kept+else-i-count}
 

@@ -1,11 +1,6 @@
-use borrow.Author.Rules.{rules}
-use native.Mathlib.Omega.{arith}
-use mathlib.Core.Logic.{⊎_elim}
 use Prim.Native.Nat.{◌≤◌, ◌-◌}
 use lib.ListN.{take}
-use Rattle.table.proofs.Known.{wires-long}
-use Rattle.step.proofs.Known.{plan-out-long}
-use Rattle.step.proofs.Splice.{target, Mid, mid_start, mid-more, goal-moved, goal-sent, goal-past, written_is}
+use Rattle.step.proofs.Splice.{target, Mid}
 use Rattle.step.proofs.write.written.Given as goal
 
 abbrev pub invariant-loop-i : goal.invariant-loop-i
