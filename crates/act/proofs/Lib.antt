@@ -1,5 +1,1 @@
-pub mod Known
-pub mod Desks
-pub mod Turns
-pub mod Actions
-pub mod Laying
+pub mod Serving

@@ -1,12 +1,11 @@
 -- What goes in and what comes out: a room's work before and after, with its lists in arrays.
-use Rattle.std.specs.Prelude.{◌≡◌, false, [], length, take}
+use Rattle.std.specs.Prelude.{false, [], length, take}
 use Rattle.base.specs.Arrays.{padded}
 use Rattle.table.specs.Tables.{no_wire, no_queued}
 use Rattle.rules.specs.Work.{Work}
 use Rattle.act.specs.declared.Start.{Start}
 use Rattle.act.specs.declared.Done.{Done}
-use Rattle.act.specs.declared.desk.Desk.{Desk}
-use Rattle.act.specs.Desk.{place_limit, out_limit, work_of, Starts}
+use Rattle.act.specs.Desk.{place_limit, out_limit}
 
 -- a room before it has done anything
 abbrev pub start_of : Start → Work
@@ -23,8 +22,3 @@ done_of w =
       sent = length w.sent;
       worn = w.worn;
     }
-
--- desk r is laid out with s
-pub record Lays (s : Start) (r : Desk) : Type 0 where
-  pub holds : work_of r ≡ start_of s
-  pub starts : Starts r

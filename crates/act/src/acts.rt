@@ -1,151 +1,133 @@
-// What each event does at the room's desk. The module is private: only proved callers use it, on desks that they have laid out.
-ghost use Rattle.std.specs.Prelude.{◌≡◌, ◌<◌};
+// What each event does at a desk that is laid out for it.
+#![tactic(auto, unfolding(rules::specs::Rules::ask, rules::specs::Rules::ask_with, rules::specs::Rules::ask_without, rules::specs::Rules::is_empty, rules::specs::Rules::upgrade, rules::specs::Rules::hand_back, rules::specs::Rules::take_request, rules::specs::Rules::receive, rules::specs::Rules::want, rules::specs::Rules::hold, rules::specs::Rules::lend, rules::specs::Work::send))]
+
+ghost use Rattle.std.specs.Prelude.{◌≡◌};
 ghost use Rattle.rules.specs.Rules as rules;
-ghost use Rattle.act.specs.Desk.{out_limit, work_of, Starts, Ready, Ends};
+ghost use Rattle.act.specs.Done.{start_of};
 ghost use Rattle.act.specs.Acts.{lends_on};
 
-use crate::desk::{Desk, change, hold, join, lend, post, serve, settle, want};
+use crate::Start;
+use crate::desk::Desk;
 use table::Message;
 
 // The room has the token: it holds m, or waits at the end of the queue.
-// Only for ask, which is proved: the desk is as lay_out lays it.
-fn ask_with(d: Desk, m: u8) -> Desk
-    requires { Starts d }
-    ensures { Ends result (rules.ask_with (work_of d) m) }
+fn ask_with(s: Start, m: u8) -> Desk
+    ensures { result ≡ rules.ask_with (start_of s) m }
 {
-    let room = d.room;
-    if d.first < d.last {
-        return join(want(d, m), d.me, m);
+    let mut desk = Desk::from(s);
+    if desk.queue.is_empty() && modes::agree(m, desk.room.owned()) {
+        desk.hold(m);
+    } else {
+        desk.want(m);
+        desk.join(s.me, m);
     }
-    if !modes::agree(m, room.owned()) {
-        return join(want(d, m), d.me, m);
-    }
-    hold(d, m)
+    desk
 }
 
 // The room has not: it takes m under what it owns, or sends a REQUEST.
-// Only for ask, which is proved: the desk is as lay_out lays it.
-fn ask_without(d: Desk, m: u8) -> Desk
-    requires { Starts d }
-    ensures { Ends result (rules.ask_without (work_of d) m) }
+fn ask_without(s: Start, m: u8) -> Desk
+    ensures { result ≡ rules.ask_without (start_of s) m }
 {
-    let room = d.room;
-    let own = room.owned();
+    let mut desk = Desk::from(s);
+    let own = s.room.owned();
     if modes::can_lend(own, m) {
-        return hold(d, m);
+        desk.hold(m);
+    } else {
+        desk.want(m);
+        desk.post(
+            s.room.toward,
+            Message::Request {
+                origin: s.me,
+                mode: m,
+                idle: own == modes::NONE,
+            },
+        );
     }
-    post(
-        want(d, m),
-        room.toward,
-        Message::Request {
-            origin: d.me,
-            mode: m,
-            idle: own == modes::NONE,
-        },
-    )
+    desk
 }
 
 // ASK.
-// Only for proved callers in this crate: the desk is as lay_out lays it.
-pub fn ask(d: Desk, m: u8) -> Desk
-    requires { Starts d }
-    ensures { Ends result (rules.ask (work_of d) m) }
+pub fn ask(s: Start, m: u8) -> Desk
+    ensures { result ≡ rules.ask (start_of s) m }
 {
-    if d.room.token {
-        return ask_with(d, m);
+    if s.room.token {
+        ask_with(s, m)
+    } else {
+        ask_without(s, m)
     }
-    ask_without(d, m)
 }
 
 // UPGRADE.
-// Only for proved callers in this crate: the desk is as lay_out lays it.
-pub fn upgrade(d: Desk) -> Desk
-    requires { Starts d }
-    ensures { Ends result (rules.upgrade (work_of d)) }
+pub fn upgrade(s: Start) -> Desk
+    ensures { result ≡ rules.upgrade (start_of s) }
 {
-    let room = d.room;
-    if room.has_no_entries() {
-        return hold(d, modes::W);
+    let mut desk = Desk::from(s);
+    if s.room.has_no_entries() {
+        desk.hold(modes::W);
+    } else {
+        desk.want(modes::W);
     }
-    want(d, modes::W)
-}
-
-// What a room whose modes have changed does next.
-// Only for hand_back and receive, which are proved: a place is left for a message to each that waits, and one at least.
-fn settle_or_serve(d: Desk) -> Desk
-    requires { Ready d × (d.sent < out_limit) }
-    ensures { Ends result (rules.settle_or_serve (work_of d)) }
-{
-    if d.room.token {
-        return serve(d);
-    }
-    settle(d)
+    desk
 }
 
 // HANDBACK.
-// Only for proved callers in this crate: the desk is as lay_out lays it.
-pub fn hand_back(d: Desk) -> Desk
-    requires { Starts d }
-    ensures { Ends result (rules.hand_back (work_of d)) }
+pub fn hand_back(s: Start) -> Desk
+    ensures { result ≡ rules.hand_back (start_of s) }
 {
-    settle_or_serve(hold(d, modes::NONE))
+    let mut desk = Desk::from(s);
+    desk.hold(modes::NONE);
+    desk.settle_or_serve();
+    desk
 }
 
 // Whether a room without the token lends to the origin of a REQUEST.
-fn lends_on(d: Desk, o: u8, m: u8, idle: bool) -> bool
-    ensures { result ≡ lends_on d o m idle }
+fn lends_on(s: Start, o: u8, m: u8, idle: bool) -> bool
+    ensures { result ≡ lends_on (start_of s) o m idle }
 {
-    if !idle {
-        return false;
-    }
-    if o == d.me {
-        return false;
-    }
-    let room = d.room;
-    modes::can_lend(room.owned(), m)
+    idle && o != s.me && modes::can_lend(s.room.owned(), m)
 }
 
 // A REQUEST arrives.
-// Only for receive, which is proved: the desk is as lay_out lays it.
-fn take_request(d: Desk, o: u8, m: u8, idle: bool) -> Desk
-    requires { Starts d }
-    ensures { Ends result (rules.take_request (work_of d) o m idle) }
+fn take_request(s: Start, o: u8, m: u8, idle: bool) -> Desk
+    ensures { result ≡ rules.take_request (start_of s) o m idle }
 {
-    if d.room.token {
-        return serve(join(d, o, m));
+    let mut desk = Desk::from(s);
+    if s.room.token {
+        desk.join(o, m);
+        desk.serve();
+    } else if lends_on(s, o, m, idle) {
+        desk.lend(o, m);
+        desk.settle();
+    } else {
+        desk.post(
+            s.room.toward,
+            Message::Request {
+                origin: o,
+                mode: m,
+                idle,
+            },
+        );
     }
-    if lends_on(d, o, m, idle) {
-        return settle(lend(d, o, m));
-    }
-    post(
-        d,
-        d.room.toward,
-        Message::Request {
-            origin: o,
-            mode: m,
-            idle: idle,
-        },
-    )
+    desk
 }
 
 // The message taken from a arrives.
-// Only for proved callers in this crate: the desk is as lay_out lays it.
-pub fn receive(mut d: Desk, a: u8, message: Message) -> Desk
-    requires { Starts d }
-    ensures { Ends result (rules.receive (work_of d) a message) }
+pub fn receive(s: Start, a: u8, message: Message) -> Desk
+    ensures { result ≡ rules.receive (start_of s) a message }
 {
-    let room = d.room;
+    let mut desk = Desk::from(s);
     match message {
-        Message::Nothing => d,
-        Message::Request { origin, mode, idle } => take_request(d, origin, mode, idle),
-        Message::Grant { mode, link } => change(d, room.take_grant(a, mode, link)),
-        Message::Token { mode, rest, link } => serve(change(
-            d,
-            room.take_token(d.me, a, mode, rest, link),
-        )),
+        Message::Nothing => {}
+        Message::Request { origin, mode, idle } => return take_request(s, origin, mode, idle),
+        Message::Grant { mode, link } => desk.change(s.room.take_grant(a, mode, link)),
+        Message::Token { mode, rest, link } => {
+            desk.change(s.room.take_token(s.me, a, mode, rest, link));
+            desk.serve();
+        }
         Message::Reduce { link, mode } => {
-            d.room = room.take_reduce(a, link, mode);
-            settle_or_serve(d)
+            desk.room = s.room.take_reduce(a, link, mode);
+            desk.settle_or_serve();
         }
     }
+    desk
 }

@@ -7,11 +7,11 @@ use Rattle.base.specs.Choice.{by-test}
 use Rattle.base.specs.Sums.{same?}
 use Rattle.base.specs.Lists.{remove}
 use Rattle.room.specs.declared.Room.{Room}
+use Rattle.std.specs.Prelude.{Option, Some, None}
 use Rattle.table.specs.declared.Table.{Table}
 use Rattle.table.specs.declared.Wire.{Wire}
-use Rattle.table.specs.declared.Answer.{Answer}
+use Rattle.table.specs.Tables.{Answer}
 use Rattle.table.specs.declared.Found.{Found}
-use Rattle.table.specs.declared.Found.TheVariants as found
 use Rattle.table.specs.Limits.{wire_limit}
 use Rattle.table.specs.Tables.{room_at, messages_of, answer}
 use Rattle.table.specs.Oldest.{oldest_of}
@@ -74,14 +74,14 @@ module _ (t : Table) (l : Lawful t) where
         record { each = λ c. rw (rooms-are t shaped facts kept w a) at (changes c) }
 
   -- "DELIVER(a, b) takes the oldest message from a to b"
-  delivered-gives : (a b : ℕ) (r : Found) → oldest_of t a b ≡ r → Gives (delivered t a b r)
+  delivered-gives : (a b : ℕ) (r : Option Found) → oldest_of t a b ≡ r → Gives (delivered t a b r)
   unfolding delivered
-  delivered-gives a b found.Nothing h = refused _
-  delivered-gives a b (found.At k m) h =
-      let taken = take-oldest t shaped facts unowned a b k m h in
-      outcome-gives (remove k (messages_of t)) (receive (work_at t b) a m)
-      (receive-kept t.n (room_at t) (remove k (messages_of t)) (work_at t b) a m taken.right taken.at)
-      (receive-got t.n (room_at t) (remove k (messages_of t)) (work_at t b) refl a m taken.right taken.at)
+  delivered-gives a b None h = refused _
+  delivered-gives a b (Some found) h =
+      let taken = take-oldest t shaped facts unowned a b found.place found.message h in
+      outcome-gives (remove found.place (messages_of t)) (receive (work_at t b) a found.message)
+      (receive-kept t.n (room_at t) (remove found.place (messages_of t)) (work_at t b) a found.message taken.right taken.at)
+      (receive-got t.n (room_at t) (remove found.place (messages_of t)) (work_at t b) refl a found.message taken.right taken.at)
 
   -- "HANDBACK(x)": of a room that does not wait
   hand-back-gives : (x : ℕ) → x < t.n → (room_at t x).wanted ≡ 0 → Gives (outcome t (messages_of t) (hand_back (work_at t x)))

@@ -5,9 +5,10 @@ use Rattle.std.proofs.Common.{inl, inr, arith}
 use borrow.Author.Tests.{eq-eqb, ne_eqb, eqb-true, eqb-false, not-true}
 use Rattle.base.specs.Tests.{and_left, and_right, clash}
 use Rattle.base.specs.Below.{some_or_none}
+use Rattle.std.specs.Prelude.{Some}
+use Rattle.table.specs.Oldest.{found_at}
 use Rattle.table.specs.declared.Table.{Table}
 use Rattle.table.specs.declared.Wire.{Wire}
-use Rattle.table.specs.declared.Found.TheVariants as found
 use Rattle.table.specs.Numbers.{DONE}
 use Rattle.table.specs.Tables.{room_at, messages_of}
 use Rattle.table.specs.Oldest.{oldest_in, oldest_of}
@@ -27,7 +28,7 @@ abbrev pub Moves : Table → Type 0
 Moves t = (e : Event) × (is_draining e ≡ true) × ((step_of t e).«number» ≡ DONE)
 
 -- the first message of all is the oldest on its wire
-first_found : (t : Table) (w : Wire) (l : List Wire) → messages_of t ≡ w ∷ l → oldest_of t w.«from» w.to ≡ found.At 0 w.message
+first_found : (t : Table) (w : Wire) (l : List Wire) → messages_of t ≡ w ∷ l → oldest_of t w.«from» w.to ≡ Some (found_at 0 w.message)
 unfolding oldest_of oldest_in
 first_found t w l h = rw (h, eq-eqb w.«from» w.«from» refl, eq-eqb w.to w.to refl) refl
 

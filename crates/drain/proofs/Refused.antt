@@ -2,8 +2,8 @@
 use Rattle.std.specs.Prelude.{◌≡◌, refl, ◌⊎◌, true, [], ℕ}
 use Rattle.std.proofs.Common.{inl, inr, ⊎_elim, eqb-true}
 use Rattle.base.specs.Tests.{or-use}
+use Rattle.std.specs.Prelude.{None}
 use Rattle.table.specs.declared.Table.{Table}
-use Rattle.table.specs.declared.Found.TheVariants as found
 use Rattle.table.specs.Numbers.{DONE}
 use Rattle.table.specs.Tables.{messages_of}
 use Rattle.table.specs.Oldest.{oldest_in, oldest_of}
@@ -16,7 +16,7 @@ use Rattle.drain.specs.Drains.{is_draining, Resting}
 use Rattle.drain.proofs.Quiet.{Quiet, Moves, quiet-or-moves}
 
 -- with no message under way no wire has one
-nothing-found : (t : Table) (a b : ℕ) → messages_of t ≡ [] → oldest_of t a b ≡ found.Nothing
+nothing-found : (t : Table) (a b : ℕ) → messages_of t ≡ [] → oldest_of t a b ≡ None
 unfolding oldest_of oldest_in
 nothing-found t a b h = rw h refl
 

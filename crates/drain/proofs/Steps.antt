@@ -9,12 +9,12 @@ use Rattle.base.specs.Choice.{by-test}
 use Rattle.base.specs.Tests.{or-use}
 use Rattle.base.specs.Lists.{remove}
 use Rattle.room.specs.declared.Room.{Room}
+use Rattle.std.specs.Prelude.{Option, Some, None}
 use Rattle.table.specs.declared.Table.{Table}
 use Rattle.table.specs.declared.Wire.{Wire}
 use Rattle.table.specs.declared.Queued.{Queued}
-use Rattle.table.specs.declared.Answer.{Answer}
+use Rattle.table.specs.Tables.{Answer}
 use Rattle.table.specs.declared.Found.{Found}
-use Rattle.table.specs.declared.Found.TheVariants as found
 use Rattle.table.specs.Tables.{room_at, queue_of, messages_of, answer}
 use Rattle.table.specs.Oldest.{oldest_of}
 use Rattle.rules.specs.declared.Event.{Event}
@@ -104,18 +104,18 @@ module _ (n : ℕ) (t : Table) (s : Safe n t) (height : ℕ → ℕ) (leads : Le
       (hand-back-lower t.n (room_at t) (messages_of t) (work_at t x) (begins n t s x low) idle holds height (led-here x)))
 
   -- DELIVER
-  delivered-lighter : (a b : ℕ) (r : Found) → oldest_of t a b ≡ r → oldest_of t a b ≢ found.Nothing → Lighter (weight_of t height) (delivered t a b r).table
+  delivered-lighter : (a b : ℕ) (r : Option Found) → oldest_of t a b ≡ r → oldest_of t a b ≢ None → Lighter (weight_of t height) (delivered t a b r).table
   unfolding delivered
-  delivered-lighter a b found.Nothing h z = absurd (z h)
-  delivered-lighter a b (found.At k m) h z =
-      lighter-after (remove k (messages_of t)) (receive (work_at t b) a m)
-      (receive-safe t.n (room_at t) (messages_of t) b (room_at t b) (queue_of t) (here n t s b) k a m at taken.right taken.at) (weight_of t height)
-      (subst (λ (c : ℕ). Lower t.n (room_at t) (remove k (messages_of t)) c (receive (work_at t b) a m)) weight
-      (receive-lower t.n (room_at t) (messages_of t) b (room_at t b) (queue_of t) (here n t s b) k a taken.at.low height
-      (subst⁻¹ (λ (f : ℕ → Room). Leads t.n f (messages_of t) height) same leads) m at taken.right taken.at))
+  delivered-lighter a b None h z = absurd (z h)
+  delivered-lighter a b (Some found) h z =
+      lighter-after (remove found.place (messages_of t)) (receive (work_at t b) a found.message)
+      (receive-safe t.n (room_at t) (messages_of t) b (room_at t b) (queue_of t) (here n t s b) found.place a found.message at taken.right taken.at) (weight_of t height)
+      (subst (λ (c : ℕ). Lower t.n (room_at t) (remove found.place (messages_of t)) c (receive (work_at t b) a found.message)) weight
+      (receive-lower t.n (room_at t) (messages_of t) b (room_at t b) (queue_of t) (here n t s b) found.place a taken.at.low height
+      (subst⁻¹ (λ (f : ℕ → Room). Leads t.n f (messages_of t) height) same leads) found.message at taken.right taken.at))
     where
-      taken : Taken t (shaped n t s) (facts n t s) (unowned n t s) a b k m
-      taken = take-oldest t (shaped n t s) (facts n t s) (unowned n t s) a b k m h
+      taken : Taken t (shaped n t s) (facts n t s) (unowned n t s) a b found.place found.message
+      taken = take-oldest t (shaped n t s) (facts n t s) (unowned n t s) a b found.place found.message h
 
       same : now (room_at t) (work_at t b) ≡ room_at t
       same = same-rooms t (shaped n t s) (facts n t s) (unowned n t s) b
@@ -123,8 +123,8 @@ module _ (n : ℕ) (t : Table) (s : Safe n t) (height : ℕ → ℕ) (leads : Le
       weight : potential t.n (now (room_at t) (work_at t b)) (queue_of t) (messages_of t) 0 height ≡ weight_of t height
       weight = ap (λ (f : ℕ → Room). potential t.n f (queue_of t) (messages_of t) 0 height) same
 
-      at : Oldest (messages_of t) k a b m
-      at = record { low = oldest-low t a b k m h; there = oldest-there t a b k m h; first = oldest-first t a b k m h }
+      at : Oldest (messages_of t) found.place a b found.message
+      at = record { low = oldest-low t a b found.place found.message h; there = oldest-there t a b found.place found.message h; first = oldest-first t a b found.place found.message h }
 
   -- an accepted delivery or hand-back lowers the measure
   pub drains-lower : (e : Event) → is_draining e ≡ true → refusal t e ≡ 0 → Lighter (weight_of t height) (step_of t e).table

@@ -13,7 +13,7 @@ use Rattle.room.specs.Record.{with_modes}
 use Rattle.room.specs.Owned.{owned, has_no_entries}
 use Rattle.table.specs.declared.Table.{Table}
 use Rattle.table.specs.declared.Wire.{Wire}
-use Rattle.table.specs.declared.Answer.{Answer}
+use Rattle.table.specs.Tables.{Answer}
 use Rattle.table.specs.declared.Message.TheVariants as msg
 use Rattle.table.specs.Tables.{room_at, messages_of, fresh_table}
 use Rattle.rules.specs.declared.Event.{Event}

@@ -12,8 +12,9 @@ use Rattle.base.specs.Tests.{and_left, and_right}
 use Rattle.base.specs.Sums.{one}
 use Rattle.modes.specs.Codes.{U, W}
 use Rattle.modes.specs.Modes.{agrees, can_lend}
+use Rattle.std.specs.Prelude.{Option}
 use Rattle.room.specs.declared.Room.{Room}
-use Rattle.room.specs.declared.Send.{Send}
+use Rattle.room.specs.declared.Reduce.{Reduce}
 use Rattle.room.specs.declared.Changed.{Changed}
 use Rattle.room.specs.Record.{with_modes, with_debt}
 use Rattle.room.specs.Owned.{owned, has_no_entries}
@@ -64,7 +65,7 @@ module _ (n : ℕ) (rooms : ℕ → Room) (kept : List Wire) where
   abbrev Got : Work → Type 0
   Got w = Gets (rooms w.me) w.room
 
-  sent-got : (w : Work) (s : Send) → Got w → Got (send_out w s)
+  sent-got : (w : Work) (s : Option Reduce) → Got w → Got (send_out w s)
   sent-got w s g = subst⁻¹ Got (sent-out w s) g
 
   -- "Settle (without the token)"

@@ -1,32 +1,44 @@
 // Which event comes next: one of a session, or one of a drain, in several orders.
 use crate::numbers::{below, byte};
-use room::ROOMS;
 use rules::Event;
 use table::{Table, WIRES, Wire};
 
-// The orders of a drain. The oldest message first, and hand-backs when there is none.
-const OLDEST: usize = 0;
-// Hand-backs first, then the wire of the newest message.
-const NEWEST: usize = 1;
-// One wire starved to the end: the other wires first, then hand-backs, and it when neither is left.
-const STARVED: usize = 2;
-// Some message or a hand-back.
-const RANDOM: usize = 3;
-
-pub const ORDERS: usize = 4;
-// The events of a session: all kinds, and asks alone.
-pub const MIXED: usize = 4;
-
-pub const ASKS: usize = 5;
-
-// The message at a place; nothing where there is none.
-fn message_at(t: Table, place: usize) -> Wire {
-    let at = place % WIRES;
-    t.wires[at]
+// The order of a drain.
+#[derive(Clone, Copy)]
+pub enum Order {
+    // The oldest message first, and hand-backs when there is none.
+    Oldest,
+    // Hand-backs first, then the wire of the newest message.
+    Newest,
+    // One wire starved to the end: the other wires first, then hand-backs, and it when neither is left.
+    Starved,
+    // Some message or a hand-back.
+    Random,
 }
 
-// The delivery on the wire of a message; one that is refused where there is no message.
-fn delivery(w: Wire) -> Event {
+pub const ORDERS: [Order; 4] = [Order::Oldest, Order::Newest, Order::Starved, Order::Random];
+
+// An event of one room, picked with a mode by a random number.
+fn of_a_room(kind: u8, t: &Table, r: usize) -> Event {
+    Event {
+        kind,
+        room: byte(below(usize::from(t.n), r)),
+        other: 0,
+        mode: byte(r / 256 % 5 + 1),
+    }
+}
+
+fn hand_back(room: usize) -> Event {
+    Event {
+        kind: rules::HANDBACK,
+        room: byte(room),
+        other: 0,
+        mode: 0,
+    }
+}
+
+// The delivery on the wire of a message.
+fn delivery(w: &Wire) -> Event {
     Event {
         kind: rules::DELIVER,
         room: w.from,
@@ -35,114 +47,69 @@ fn delivery(w: Wire) -> Event {
     }
 }
 
-// Whether two messages are on one wire.
-fn on_one_wire(a: Wire, b: Wire) -> bool {
-    a.from == b.from && a.to == b.to
+// The messages under way, the oldest first.
+fn messages(t: &Table) -> &[Wire] {
+    &t.wires[..t.count.min(WIRES)]
 }
 
-// An event of a session: of eight that are mixed two ask, one upgrades, two hand back, and three deliver some message.
-fn mixed(t: Table, order: usize, r: usize) -> Event {
+// The delivery of the message that a random number picks, if there is one.
+fn some_delivery(t: &Table, r: usize) -> Option<Event> {
+    let all = messages(t);
+    all.get(below(all.len(), r)).map(delivery)
+}
+
+// An event of a session: some room asks.
+pub fn ask(t: &Table, r: usize) -> Option<Event> {
+    Some(of_a_room(rules::ASK, t, r / 8))
+}
+
+// Of eight events that are mixed two ask, one upgrades, two hand back, and three deliver some message, if there is one.
+pub fn mixed(t: &Table, r: usize) -> Option<Event> {
     let rest = r / 8;
-    let which = match order {
-        ASKS => 0,
-        _ => r % 8,
-    };
-    let kind = match which {
-        0..=1 => rules::ASK,
-        2 => rules::UPGRADE,
-        3..=4 => rules::HANDBACK,
-        _ => return delivery(message_at(t, below(t.count, rest))),
-    };
-    Event {
-        kind: kind,
-        room: byte(below(t.n as usize, rest)),
-        other: 0,
-        mode: byte(rest / 256 % 5 + 1),
+    match r % 8 {
+        0..=1 => ask(t, r),
+        2 => Some(of_a_room(rules::UPGRADE, t, rest)),
+        3..=4 => Some(of_a_room(rules::HANDBACK, t, rest)),
+        _ => some_delivery(t, rest),
     }
 }
 
-// The place of the oldest message that is on another wire than this one; the oldest of all, where there is none.
-fn other_wire(t: Table, starved: Wire) -> usize {
-    let count = t.count;
-    let mut i: usize = 0;
-    while i < WIRES {
-        if i >= count {
-            return 0;
-        }
-        let w = t.wires[i];
-        if !on_one_wire(w, starved) {
-            return i;
-        }
-        i += 1;
-    }
-    0
+// Whether two messages are on one wire.
+fn on_one_wire(a: &Wire, b: &Wire) -> bool {
+    (a.from, a.to) == (b.from, b.to)
 }
 
-// The place of the message whose wire is next.
-fn place(t: Table, order: usize, r: usize, starved: Wire) -> usize {
-    let count = t.count;
-    match order {
-        OLDEST => 0,
-        NEWEST => {
-            if count == 0 {
-                return 0;
+// The first room that holds and does not wait.
+fn first_holder(t: &Table) -> Option<usize> {
+    t.rooms.iter().position(|r| r.wanted == 0 && r.held != 0)
+}
+
+// Whether nothing is under way and nobody waits.
+pub fn rests(t: &Table) -> bool {
+    messages(t).is_empty() && t.rooms.iter().all(|r| r.wanted == 0)
+}
+
+impl Order {
+    // What comes next in a drain; nothing where no message is under way and no room holds without waiting.
+    pub fn next(self, t: &Table, r: usize, starved: &Wire) -> Option<Event> {
+        let holder = first_holder(t).map(hand_back);
+        let all = messages(t);
+        let oldest = all.first().map(delivery);
+        match self {
+            Order::Oldest => oldest.or(holder),
+            Order::Newest => holder.or(all.last().map(delivery)),
+            Order::Starved => {
+                let other = all.iter().find(|w| !on_one_wire(w, starved));
+                other.map(delivery).or(holder).or(oldest)
             }
-            count - 1
-        }
-        STARVED => other_wire(t, starved),
-        _ => below(count, r / 2),
-    }
-}
-
-// The first room that waits, or that holds and does not wait; past the last one where there is none.
-pub fn first_room(t: Table, waiting: bool) -> usize {
-    let mut c: usize = 0;
-    while c < ROOMS {
-        if t.rooms[c].wanted != 0 {
-            if waiting {
-                return c;
-            }
-        } else if t.rooms[c].held != 0 {
-            if !waiting {
-                return c;
+            Order::Random => {
+                let some = some_delivery(t, r / 2);
+                if r % 2 == 0 {
+                    holder.or(some)
+                } else {
+                    some.or(holder)
+                }
             }
         }
-        c += 1;
     }
-    ROOMS
-}
-
-// Whether a hand-back of room c, if there is such a room, is next, and not one of so many messages.
-// Where a wire is starved, it is next once only that wire has messages.
-fn hands_back(order: usize, r: usize, c: usize, count: usize, on_starved: bool) -> bool {
-    if count == 0 {
-        return true;
-    }
-    if c >= ROOMS {
-        return false;
-    }
-    match order {
-        NEWEST => true,
-        STARVED => on_starved,
-        RANDOM => r % 2 == 0,
-        _ => false,
-    }
-}
-
-// What comes next. In a drain it is refused where no message is under way and no room holds without waiting.
-pub fn next(t: Table, order: usize, r: usize, starved: Wire) -> Event {
-    if order >= MIXED {
-        return mixed(t, order, r);
-    }
-    let c = first_room(t, false);
-    let w = message_at(t, place(t, order, r, starved));
-    if hands_back(order, r, c, t.count, on_one_wire(w, starved)) {
-        return Event {
-            kind: rules::HANDBACK,
-            room: byte(c),
-            other: 0,
-            mode: 0,
-        };
-    }
-    delivery(w)
 }

@@ -9,22 +9,12 @@ mod trial; // trial.rt: one drain, and the longest of several
 use room::MOST_ROOMS;
 use trial::Trial;
 
-// The line for n rooms.
-fn show(rt: &impl Print, n: u8, longest: Trial) {
-    let steps = longest.steps;
-    let most = longest.most;
-    let _ = println!(rt; "n {n}: longest drain {steps}, bound {most}, nobody waits");
-}
-
 fn main(rt: HostRuntime) {
-    let mut n: u8 = 1;
-    while n <= MOST_ROOMS {
-        let longest = trial::longest(n);
-        if longest.steps > longest.most {
+    for n in 1..=MOST_ROOMS {
+        let Some(Trial { steps, most }) = trial::longest(n) else {
             let _ = println!(rt; "FAILED");
             return;
-        }
-        show(&rt, n, longest);
-        n += 1;
+        };
+        let _ = println!(rt; "n {n}: longest drain {steps}, bound {most}, nobody waits");
     }
 }

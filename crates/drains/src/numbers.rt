@@ -1,21 +1,35 @@
 // Pseudo-random numbers.
 
-// The number after another one, by three shifts.
-pub fn after(r: usize) -> usize {
-    let a = r ^ (r << 13);
-    let b = a ^ (a >> 7);
-    b ^ (b << 17)
+// The numbers after a first one, without end.
+#[derive(Drop)]
+pub struct Numbers {
+    last: usize,
+}
+
+impl Numbers {
+    pub fn after(seed: usize) -> Numbers {
+        Numbers { last: seed }
+    }
+}
+
+// Each from the one before by three shifts.
+impl Iterator for Numbers {
+    type Item = usize;
+
+    fn next(&mut self) -> Option<usize> {
+        let a = self.last ^ (self.last << 13);
+        let b = a ^ (a >> 7);
+        self.last = b ^ (b << 17);
+        Some(self.last)
+    }
 }
 
 // A number below n, where there is one.
 pub fn below(n: usize, r: usize) -> usize {
-    if n == 0 {
-        return 0;
-    }
-    r % n
+    r.checked_rem(n).unwrap_or(0)
 }
 
 // A number as a byte: 255 where it is larger.
 pub fn byte(value: usize) -> u8 {
-    if value < 256 { value as u8 } else { 255 }
+    u8::try_from(value).unwrap_or(u8::MAX)
 }

@@ -6,12 +6,12 @@ use Rattle.base.specs.Choice.{by-test}
 use Rattle.base.specs.Tests.{and_left, and_right, clash}
 use Rattle.base.specs.Below.{all-at}
 use Rattle.modes.specs.Codes.{IR, U, W}
+use Rattle.std.specs.Prelude.{Option, None}
 use Rattle.table.specs.declared.Table.{Table}
-use Rattle.table.specs.declared.Answer.{Answer}
+use Rattle.table.specs.Tables.{Answer}
 use Rattle.table.specs.Numbers.{DONE}
 use Rattle.table.specs.Tables.{room_at, answer}
 use Rattle.table.specs.declared.Found.{Found}
-use Rattle.table.specs.declared.Found.TheVariants as found
 use Rattle.table.specs.Oldest.{oldest_of}
 use Rattle.table.specs.Formed.{is_mode, well_formed}
 use Rattle.rules.specs.declared.Event.{Event}
@@ -34,7 +34,7 @@ or-false-right : (p q : Bool) → (p || q) ≡ false → q ≡ false
 or-false-right true q h = absurd (true≢false h)
 or-false-right false q h = h
 
-nothing-found : (r : Found) → r ≡ found.Nothing → is_found r ≡ true → ⊥
+nothing-found : (r : Option Found) → r ≡ None → is_found r ≡ true → ⊥
 unfolding is_found
 nothing-found r e h = absurd (false≢true (rw e at h))
 
@@ -62,7 +62,7 @@ pub record AcceptedAs (told : Bool) (t : Table) (e : Event) : Type 0 where
   pub had : is_hand_back e ≡ true → (room_at t e.room).held ≢ 0
   pub holds : is_upgrade e ≡ true → (room_at t e.room).held ≡ U
   -- 8 EMPTY
-  pub found : is_deliver e ≡ true → oldest_of t e.room e.other ≢ found.Nothing
+  pub found : is_deliver e ≡ true → oldest_of t e.room e.other ≢ None
   -- 9 BUSY
   pub few : is_ask e ≡ true → t.count < busy_limit
   -- 10 WORN, by a counter

@@ -5,9 +5,10 @@ use Rattle.std.proofs.lemmas.Bool.{eqb-false}
 use Rattle.base.specs.Choice.{by-test}
 use Rattle.base.specs.Tests.{or-use, or_left, clash}
 use Rattle.modes.specs.Modes.{is_stronger}
+use Rattle.std.specs.Prelude.{Option, Some, None}
+use Rattle.room.specs.Rules.{reduce_to}
 use Rattle.room.specs.declared.Room.{Room}
-use Rattle.room.specs.declared.Send.{Send}
-use Rattle.room.specs.declared.Send.TheVariants as out
+use Rattle.room.specs.declared.Reduce.{Reduce}
 use Rattle.room.specs.declared.Changed.{Changed}
 use Rattle.room.specs.Limits.{nobody}
 use Rattle.room.specs.Record.{entry_of, entry_at, with_debt, set_entry}
@@ -18,11 +19,11 @@ use Rattle.table.specs.declared.Message.TheVariants as msg
 use Rattle.facts.specs.Wires.{wire, sent_by, leaving_sent}
 
 -- to the old lender: nothing if there is none, or if it stays the lender, else a REDUCE
-pub leaving-send : (r : Room) (a : ℕ) (P : Send → Type 0) → ((r.lender ≡ nobody) ⊎ (r.lender ≡ a) → P out.Nothing)
-    → (r.lender ≢ nobody → P (out.Reduce r.lender r.link 0)) → P (leaving r a)
+pub leaving-send : (r : Room) (a : ℕ) (P : Option Reduce → Type 0) → ((r.lender ≡ nobody) ⊎ (r.lender ≡ a) → P None)
+    → (r.lender ≢ nobody → P (Some (reduce_to r 0))) → P (leaving r a)
 unfolding leaving
 leaving-send r a P p q =
-    by-test P (eqb r.lender nobody || eqb r.lender a) out.Nothing (out.Reduce r.lender r.link 0)
+    by-test P (eqb r.lender nobody || eqb r.lender a) None (Some (reduce_to r 0))
     (λ e. p (⊎_elim (λ h. inl (eqb-true _ _ h)) (λ h. inr (eqb-true _ _ h)) (or-use (eqb r.lender nobody) (eqb r.lender a) e)))
     (λ e. q (λ h. clash (or_left (eqb r.lender nobody) (eqb r.lender a) (eq-eqb r.lender nobody h)) e))
 
@@ -30,7 +31,7 @@ leaving-send r a P p q =
 pub leaving-either : (me : ℕ) (r : Room) (a : ℕ) (P : List Wire → Type 0) → P []
     → (r.lender ≢ nobody → P (wire me r.lender (msg.Reduce r.link 0) ∷ [])) → P (leaving_sent me r a)
 unfolding leaving_sent
-leaving-either me r a P p q = leaving-send r a (λ (s : Send). P (sent_by me s)) (λ e. p) q
+leaving-either me r a P p q = leaving-send r a (λ (s : Option Reduce). P (sent_by me s)) (λ e. p) q
 
 -- a pass: something remains or not
 pub passed-either : (r : Room) (y : ℕ) (P : Room → Type 0) → (remaining r y ≡ 0 → P (left r y))
@@ -54,12 +55,12 @@ credited-credit r m = credited-either r m (λ (s : Room). s.credit ≡ m) (λ e.
 -- "if owned is weaker than credit": a REDUCE is due, or nothing is done
 pub settled-either : (r : Room) (P : Changed → Type 0)
     → (is_stronger r.credit (owned r) ≡ true
-    → P (record { room = credited r (owned r); send = out.Reduce r.lender r.link (owned r) }))
-    → (is_stronger r.credit (owned r) ≡ false → P (record { room = r; send = out.Nothing })) → P (settled r)
+    → P (record { room = credited r (owned r); send = Some (reduce_to r (owned r)) }))
+    → (is_stronger r.credit (owned r) ≡ false → P (record { room = r; send = None })) → P (settled r)
 unfolding settled
 settled-either r P =
     by-test P (is_stronger r.credit (owned r))
-    (record { room = credited r (owned r); send = out.Reduce r.lender r.link (owned r) }) (record { room = r; send = out.Nothing })
+    (record { room = credited r (owned r); send = Some (reduce_to r (owned r)) }) (record { room = r; send = None })
 
 -- a REDUCE: taken, or dropped
 pub reduced-either : (r : Room) (a l m : ℕ) (P : Room → Type 0)

@@ -1,35 +1,60 @@
--- Laws of lists and counts that the loops use.
-use mathlib.Core.Path.{◌≡◌, ap}
+-- Tests of the places of arrays, those in use and those that are not, and counts of the first numbers.
+use mathlib.Core.Path.{◌≡◌, refl, sym, ◌∙◌, ap}
 use mathlib.Core.Logic.{◌⊎◌, inl, inr}
-use mathlib.Core.Bool.{Bool, false}
-use mathlib.Core.List.{List}
-use Prim.Native.Nat.{ℕ, zero, suc, ◌+◌, ◌≤◌, ◌<◌}
+use mathlib.Core.Bool.{Bool, true, false, ◌&&◌, and_assoc}
+use mathlib.Core.List.{List, [], ◌∷◌}
+use Prim.Native.Nat.{ℕ, zero, suc, ◌≤◌, ◌<◌, zero-le}
 use native.Mathlib.Omega.{arith}
-use lib.ListN.{length, get_or, take, length-take}
-use lib.Seq.{take_all, get_or-take}
+use lib.ListN.{length, get_or, take, drop}
+use lib.Dec.{ltb}
+use borrow.Author.Tests.{lt-ltb, le-ltb}
+use Rattle.std.specs.Prelude.{if◌then◌else◌}
+use Rattle.std.specs.List.{list_all, zip}
+use Rattle.std.proofs.lemmas.Bool.Decides.{nat_tests}
+use Rattle.base.specs.Below.{all_below, all_of}
 use Rattle.base.specs.Sums.{one, sum, count_below, below?}
-use Rattle.base.specs.Lists.{count, count-le, total-more}
+use Rattle.records.proofs.Lists.{all-first, all_same}
 
--- how many of the first i pass a test, of those n of a list that are in use
-module _ {A : Type 0} (p : A → Bool) (l : List A) (n : ℕ) where
-  pub prefix-low : (i : ℕ) → count p (take i (take n l)) ≤ i
-  prefix-low i = omega (arith, count-le p (take i (take n l)), length-take i (take n l))
+-- a test of the pairs of two arrays, of which the first n are in use, with fillers that pass it
+module _ {A B : Type 0} (f : A → B → Bool) (d : A) (e : B) (fills : f d e ≡ true) where
+  pub all-paired : (xs : List A) (ys : List B) → length xs ≡ length ys → (n : ℕ)
+      → list_all (λ p. f p.0 p.1) (take n (zip xs ys)) ≡ all_below n (λ c. f (get_or xs c d) (get_or ys c e))
+  all-paired xs ys h zero = refl
+  all-paired [] [] h (suc n) = sym (all_of (suc n) (λ c. f d e) (λ c l. fills))
+  all-paired [] (y ∷ ys) h (suc n) = absurd (omega arith)
+  all-paired (x ∷ xs) [] h (suc n) = absurd (omega arith)
+  all-paired (x ∷ xs) (y ∷ ys) h (suc n) = rw (all-first, all-paired xs ys (omega arith) n)
 
-  pub prefix-all : (i : ℕ) → length l ≤ i → count p (take i (take n l)) ≡ count p (take n l)
-  prefix-all i h = let k : length (take n l) ≤ i = simp length-take (omega arith) in rw (take_all i (take n l) k)
+-- one test of the places in use, which are the first k, and another of the others
+module _ {A : Type 0} (f g : A → Bool) (d : A) where
+  parted : (l : List A) (k : ℕ) → k ≤ length l
+      → all_below (length l) (λ i. if ltb i k then f (get_or l i d) else g (get_or l i d)) ≡ (list_all f (take k l) && list_all g (drop k l))
+  parted [] zero h = refl
+  parted [] (suc k) h = absurd (omega arith)
+  parted (x ∷ l) zero h =
+      all-first (length l) (λ i. if ltb i 0 then f (get_or (x ∷ l) i d) else g (get_or (x ∷ l) i d))
+      ∙ ap (λ b. g x && b)
+      (all_same
+      (length l)
+      (λ i. if ltb (suc i) 0 then f (get_or l i d) else g (get_or l i d))
+      (λ i. if ltb i 0 then f (get_or l i d) else g (get_or l i d))
+      (λ i l. simp (le-ltb (suc i) 0 zero-le, le-ltb i 0 zero-le))
+      ∙ parted l zero (omega arith))
+  parted (x ∷ l) (suc k) h =
+      all-first (length l) (λ i. if ltb i (suc k) then f (get_or (x ∷ l) i d) else g (get_or (x ∷ l) i d))
+      ∙ simp (lt-ltb 0 (suc k) (omega arith))
+      (ap (λ b. f x && b)
+      (all_same
+      (length l)
+      (λ i. if ltb (suc i) (suc k) then f (get_or l i d) else g (get_or l i d))
+      (λ i. if ltb i k then f (get_or l i d) else g (get_or l i d))
+      (λ i l. grind (arith, nat_tests))
+      ∙ parted l k (omega arith))
+      ∙ sym (and_assoc (f x) (list_all f (take k l)) (list_all g (drop k l))))
 
-  pub prefix-next : (d : A) (i : ℕ) → i < length l → (b : Bool) → (i < n → b ≡ p (get_or l i d)) → (n ≤ i → b ≡ false)
-      → count p (take (i + 1) (take n l)) ≡ count p (take i (take n l)) + one b
-  prefix-next d i h b low high = go (below? i n)
-    where
-      go : (i < n) ⊎ (n ≤ i) → count p (take (i + 1) (take n l)) ≡ count p (take i (take n l)) + one b
-      go (inl k) =
-          let far : i < length (take n l) = simp length-take (omega arith) in
-          rw (low k, ← (get_or-take n l i d k)) (total-more (λ x. one (p x)) (take n l) i d far)
-      go (inr k) =
-          let near : length (take n l) ≤ i = simp length-take (omega arith) in
-          let past : length (take n l) ≤ i + 1 = simp length-take (omega arith) in
-          rw (high k, take_all i (take n l) near, take_all (i + 1) (take n l) past) (omega arith)
+  pub all-parted : (l : List A) (n : ℕ) → length l ≡ n → (k : ℕ) → k ≤ n
+      → all_below n (λ i. if ltb i k then f (get_or l i d) else g (get_or l i d)) ≡ (list_all f (take k l) && list_all g (drop k l))
+  all-parted l n long k h = rw (← long) (parted l k (rw long h))
 
 -- numbers from n on that fail a test do not count
 pub count_past : (m n : ℕ) (f : ℕ → Bool) → n ≤ m → ((c : ℕ) → n ≤ c → c < m → f c ≡ false) → count_below m f ≡ count_below n f

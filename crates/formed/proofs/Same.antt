@@ -1,20 +1,20 @@
 -- The tests of the queue and of the messages need no more of the rooms than their standings.
-use mathlib.Core.Path.{◌≡◌, refl, sym}
-use mathlib.Core.Bool.{true, false, not, ◌&&◌, and_assoc, and-false, false≢true}
+use mathlib.Core.Path.{◌≡◌, refl}
+use mathlib.Core.Bool.{true, false, not, ◌&&◌, and_assoc, and-false}
 use Prim.Native.Nat.{ℕ, ◌<◌}
-use native.Mathlib.Omega.{arith}
 use lib.Dec.{ltb, eqb}
-use borrow.Author.Tests.{ltb-true, ne_eqb}
+use borrow.Author.Tests.{ltb-true}
+use Rattle.std.specs.Prelude.{Bool, Option, Some, None}
+use native.Mathlib.Omega.{arith}
+use Rattle.std.proofs.lemmas.Bool.Decides.{nat_tests}
 use Rattle.base.specs.Choice.{split}
-use Rattle.base.specs.Tests.{and_right}
 use Rattle.base.specs.Sums.{one}
 use Rattle.room.specs.declared.Room.{Room}
-use Rattle.room.specs.Limits.{room_limit}
 use Rattle.table.specs.declared.Queued.{Queued}
 use Rattle.table.specs.declared.Wire.{Wire}
 use Rattle.table.specs.declared.Message.{Message}
 use Rattle.table.specs.declared.Message.TheVariants as msg
-use Rattle.table.specs.Formed.{due, queued_fine, message_fine, names_rightly, wire_fine, is_nothing, is_blank_wire, is_token, is_named_in}
+use Rattle.table.specs.Formed.{due, queued_fine, message_fine, names_rightly, wire_fine, is_token, is_named_in}
 use Rattle.formed.specs.Names.{carried_by}
 
 -- two ways to tell the rooms, the same in the standings of the first n
@@ -43,14 +43,23 @@ module _ (n : ℕ) (f g : ℕ → Room) (dues : (c : ℕ) → c < n → due (f c
         ))
         (λ e. simp (e, and-false))
 
+-- whether a message, of which this is told, names the room c
+abbrev pub names_room : Option ℕ → ℕ → Bool
+names_room None c = false
+names_room (Some o) c = eqb o c
+
+pub names-nobody : (o : Option ℕ) → ((x : ℕ) → o ≡ Some x → ⊥) → (c : ℕ) → names_room o c ≡ false
+names-nobody None h c = refl
+names-nobody (Some x) h c = absurd (h x refl)
+
 -- a message names the room that is found in it, and carries as many tokens
-pub named-is : (c : ℕ) → c < room_limit → (to : ℕ) (m : Message) → is_named_in c to m ≡ eqb (carried_by to m).room c
+pub named-is : (c to : ℕ) (m : Message) → is_named_in c to m ≡ names_room (carried_by to m).room c
 unfolding is_named_in carried_by
-named-is c h to msg.Nothing = sym (ne_eqb room_limit c (omega arith))
-named-is c h to (msg.Request o m idle) = refl
-named-is c h to (msg.Grant m l) = refl
-named-is c h to (msg.Token m rest l) = refl
-named-is c h to (msg.Reduce l m) = sym (ne_eqb room_limit c (omega arith))
+named-is c to msg.Nothing = refl
+named-is c to (msg.Request o m idle) = refl
+named-is c to (msg.Grant m l) = refl
+named-is c to (msg.Token m rest l) = refl
+named-is c to (msg.Reduce l m) = refl
 
 pub tokens-are : (to : ℕ) (m : Message) → (carried_by to m).tokens ≡ one (is_token m)
 unfolding is_token carried_by
@@ -60,30 +69,11 @@ tokens-are to (msg.Grant m l) = refl
 tokens-are to (msg.Token m rest l) = refl
 tokens-are to (msg.Reduce l m) = refl
 
--- a blank wire carries no token and names nobody
-no-token : (m : Message) → is_nothing m ≡ true → is_token m ≡ false
-unfolding is_nothing is_token
-no-token msg.Nothing h = refl
-no-token (msg.Request o m idle) h = refl
-no-token (msg.Grant m l) h = refl
-no-token (msg.Token m rest l) h = absurd (false≢true h)
-no-token (msg.Reduce l m) h = refl
-
-no_name : (c to : ℕ) (m : Message) → is_nothing m ≡ true → is_named_in c to m ≡ false
-unfolding is_nothing is_named_in
-no_name c to msg.Nothing h = refl
-no_name c to (msg.Request o m idle) h = absurd (false≢true h)
-no_name c to (msg.Grant m l) h = absurd (false≢true h)
-no_name c to (msg.Token m rest l) h = absurd (false≢true h)
-no_name c to (msg.Reduce l m) h = refl
-
-module _ (w : Wire) (h : is_blank_wire w ≡ true) where
-  blank-nothing : is_nothing w.message ≡ true
-  unfolding is_blank_wire
-  blank-nothing = and_right (eqb w.«from» 0 && eqb w.to 0) (is_nothing w.message) h
-
-  pub blank-token : is_token w.message ≡ false
-  blank-token = no-token w.message blank-nothing
-
-  pub blank-name : (c : ℕ) → is_named_in c w.to w.message ≡ false
-  blank-name c = no_name c w.to w.message blank-nothing
+-- the room that a message names is below n
+pub named-low : (n to : ℕ) (m : Message) → to < n → message_fine n m ≡ true → (o : ℕ) → (carried_by to m).room ≡ Some o → o < n
+unfolding message_fine carried_by
+named-low n to msg.Nothing h f o e = absurd (cc)
+named-low n to (msg.Request p m idle) h f o e = let same : p ≡ o = cc in grind (arith, nat_tests)
+named-low n to (msg.Grant m l) h f o e = let same : to ≡ o = cc in omega arith
+named-low n to (msg.Token m rest l) h f o e = let same : to ≡ o = cc in omega arith
+named-low n to (msg.Reduce l m) h f o e = absurd (cc)

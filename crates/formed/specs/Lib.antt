@@ -1,3 +1,3 @@
 pub mod Standings
-pub mod Parts
 pub mod Names
+pub mod Tally

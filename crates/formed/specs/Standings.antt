@@ -1,12 +1,8 @@
 -- What the queue and the messages are tested against: the rooms, told by their standings.
-use Rattle.std.specs.Prelude.{ℕ, List, [], get_or}
+use Rattle.std.specs.Prelude.{ℕ, List, []}
 use Rattle.room.specs.declared.Room.{Room}
 use Rattle.records.specs.declared.Standing.{Standing}
-use Rattle.records.specs.Seen.{no_standing}
-
--- the standing of room c in an array of them; none past its end
-abbrev pub standing_at : List Standing → ℕ → Standing
-standing_at standings c = get_or standings c no_standing
+use Rattle.records.specs.Seen.{standing_at}
 
 -- a room of which no more is told than its standing, and the rooms so told
 abbrev pub room_of : Standing → Room

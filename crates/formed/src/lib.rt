@@ -1,95 +1,78 @@
 // The test of well-formedness. Each room, each place of the queue and each wire is looked at once.
 #![tactic(auto)]
 
-ghost use Rattle.std.specs.Prelude.{◌≡◌, ◌≤◌, ltb};
-ghost use Rattle.base.specs.Sums.{one};
-ghost use Rattle.room.specs.Limits.{room_limit};
+ghost use Rattle.std.specs.Prelude.{◌≡◌};
 ghost use Rattle.table.specs.Formed.{well_formed};
-ghost use Rattle.formed.specs.Standings.{standing_at};
 ghost use Rattle.formed.specs.Names.{times_fine};
+ghost use Rattle.formed.specs.Tally.{tally_of};
 
 mod queue; // queue.rt: the places of the queue
 mod ranges; // ranges.rt: modes and sizes in range
 mod wires; // wires.rt: the messages
 
-use records::{NO_STANDING, Standing};
+use modes::NONE;
+use records::Standings;
 use room::ROOMS;
-use table::{Table, WIRES};
+use table::Table;
 
-// The standing of room c; none where there is no such room.
-fn standing_at(rooms: [Standing; ROOMS], c: u8) -> Standing
-    ensures { result ≡ standing_at rooms c }
-{
-    let at = c as usize;
-    if at < ROOMS {
-        return rooms[at];
-    }
-    NO_STANDING
+// What is counted in a table whose parts are all as they should be:
+// how often its queue and its messages name each room, and the tokens with rooms and in messages.
+// The counts stand beside the standings and not in them: they are counted while the standings are only read.
+#[derive(Clone, Copy)]
+struct Tally {
+    standings: Standings,
+    times: [usize; ROOMS],
+    tokens: usize,
 }
 
-// How often a room is to be named that waits for this mode.
-fn times_due(due: u8) -> usize
-    ensures { result ≡ one (ltb 0 due) }
-{
-    match due {
-        modes::NONE => 0,
-        modes::IR..=255 => 1,
+impl Tally {
+    // Whether each room in use is named once if it waits, else never.
+    fn times_fine(&self) -> bool
+        ensures { result ≡ times_fine self.now.standings.n self.now.standings.rooms self.now.times }
+    {
+        let in_use = usize::from(self.standings.n);
+        self.standings
+            .rooms
+            .iter()
+            .zip(&self.times)
+            .take(in_use)
+            .all(|(room, named)| *named == usize::from(room.due != NONE))
     }
 }
 
-// Whether each of n rooms is named once if it waits, else never.
-// Only for well_formed, which is proved: the sizes fit.
-fn times_fine(n: u8, rooms: [Standing; ROOMS], times: [usize; ROOMS]) -> bool
-    requires { n ≤ room_limit }
-    ensures { result ≡ times_fine n rooms times }
+// The rooms, the queue and the wires are looked over in turn; nothing where a part is not as it should be.
+fn tally_of(t: &Table) -> Option<Tally>
+    ensures { result ≡ tally_of t.now }
 {
-    let mut c: usize = 0;
-    while c < n as usize {
-        let room = rooms[c];
-        if times[c] != times_due(room.due) {
-            return false;
+    if !ranges::sizes_fit(t.n, t.queued, t.count) {
+        return None;
+    }
+    let (queue, places) = t.queue.split_at(t.queued);
+    let (messages, wires) = t.wires.split_at(t.count);
+    let seen = records::look_over(t.n, &t.rooms)?;
+    let mut times = queue::look_over(&seen.standings, queue)?;
+    let mut tokens = seen.tokens;
+    for w in messages {
+        if !wires::wire_fine(&seen.standings, *w) {
+            return None;
         }
-        c += 1;
+        let carried = wires::carried_by(*w);
+        if let Some(room) = carried.room {
+            times[usize::from(room)] += 1;
+        }
+        tokens += carried.tokens;
     }
-    true
+    let blank = queue::are_blank(places) && wires::are_blank(wires);
+    blank.then_some(Tally {
+        standings: seen.standings,
+        times,
+        tokens,
+    })
 }
 
-// Whether a table is well formed: its rooms, its queue and its wires are looked over in turn, and last what they named and carried.
+// Whether a table is well formed: each part is as it should be, there is one token, and each waiting room is named once.
 pub fn well_formed(t: Table) -> bool
     ensures { result ≡ well_formed t }
 {
-    let n = t.n;
-    let queued = t.queued;
-    let count = t.count;
-    if !ranges::sizes_fit(n, queued, count) {
-        return false;
-    }
-    let rooms = t.rooms;
-    let seen = records::look_over(n, rooms);
-    if !seen.fine {
-        return false;
-    }
-    let standings = seen.rooms;
-    let places = t.queue;
-    let named = queue::look_over(n, standings, places, queued);
-    if !named.fine {
-        return false;
-    }
-    let mut times = named.times;
-    let mut tokens = seen.tokens;
-    let mut i: usize = 0;
-    while i < WIRES {
-        let w = t.wires[i];
-        if !wires::wire_fine(n, standings, i < count, w) {
-            return false;
-        }
-        let carried = wires::carried_by(w);
-        let at = carried.room;
-        if at < ROOMS {
-            times[at] += 1;
-        }
-        tokens += carried.tokens;
-        i += 1;
-    }
-    tokens == 1 && times_fine(n, standings, times)
+    tally_of(&t).is_some_and(|tally| tally.tokens == 1 && tally.times_fine())
 }

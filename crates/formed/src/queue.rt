@@ -1,61 +1,43 @@
-// The places of the queue: each names a waiting room, or is blank.
-ghost use Rattle.std.specs.Prelude.{◌≡◌};
-ghost use Rattle.formed.specs.Parts.{queue_place_fine};
+// The places of the queue: each in use names a waiting room, and the others are blank.
+ghost use Rattle.std.specs.Prelude.{◌≡◌, ◌<◌, true};
+ghost use Rattle.std.specs.List.{list_all};
+ghost use Rattle.room.specs.Limits.{room_limit};
+ghost use Rattle.table.specs.Formed.{queued_fine, is_blank_queued};
+ghost use Rattle.formed.specs.Standings.{rooms_of};
 ghost use Rattle.formed.specs.Names.{named_in};
 
 use super::ranges::is_mode;
-use super::standing_at;
-use modes::NONE;
-use records::Standing;
+use records::Standings;
 use room::ROOMS;
-use table::{QUEUE, Queued};
+use table::{NO_QUEUED, Queued};
 
-// Whether all places are as they should be; if so, how often each room is named.
-#[derive(Clone, Copy)]
-pub struct Named {
-    pub fine: bool,
-    pub times: [usize; ROOMS],
+// A place in use: it names a waiting room of the n, with its mode.
+#[tactic(auto, unfolding(table::specs::Formed::queued_fine, table::specs::Formed::due))]
+fn place_fine(standings: &Standings, q: Queued) -> bool
+    ensures fine { result ≡ queued_fine standings.now.n (rooms_of standings.now.rooms) q }
+    ensures low { result ≡ true → q.room < room_limit }
+{
+    q.room < standings.n && is_mode(q.mode) && standings.of(q.room).due == q.mode
 }
 
-// A place: where it is in use it names a waiting room of the n, with its mode; else it is blank.
-fn place_fine(n: u8, rooms: [Standing; ROOMS], used: bool, q: Queued) -> bool
-    ensures { result ≡ queue_place_fine n rooms used q }
+// The places in use: how often each room is named; nothing where one is not as it should be.
+pub fn look_over(standings: &Standings, queue: &[Queued]) -> Option<[usize; ROOMS]>
+    ensures { result ≡ named_in standings.now.n standings.now.rooms queue.now }
 {
-    if !used {
-        return q.room == 0 && q.mode == NONE;
+    let mut times = [0; ROOMS];
+    for q in queue {
+        if !place_fine(standings, *q) {
+            return None;
+        }
+        times[usize::from(q.room)] += 1;
     }
-    if q.room >= n {
-        return false;
-    }
-    if !is_mode(q.mode) {
-        return false;
-    }
-    let room = standing_at(rooms, q.room);
-    room.due == q.mode
+    Some(times)
 }
 
-// All the places, of which the first `queued` are in use.
-pub fn look_over(n: u8, rooms: [Standing; ROOMS], queue: [Queued; QUEUE], queued: usize) -> Named
-    ensures { result ≡ named_in n rooms queue queued }
+// Whether places that are not in use are blank.
+#[tactic(auto, unfolding(table::specs::Formed::is_blank_queued))]
+pub fn are_blank(places: &[Queued]) -> bool
+    ensures { result ≡ list_all is_blank_queued places.now }
 {
-    let mut times: [usize; ROOMS] = [0; ROOMS];
-    let mut i: usize = 0;
-    while i < QUEUE {
-        let q = queue[i];
-        if !place_fine(n, rooms, i < queued, q) {
-            return Named {
-                fine: false,
-                times: [0; ROOMS],
-            };
-        }
-        if i < queued {
-            let at = q.room as usize;
-            times[at] += 1;
-        }
-        i += 1;
-    }
-    Named {
-        fine: true,
-        times: times,
-    }
+    places.iter().all(|q| *q == NO_QUEUED)
 }

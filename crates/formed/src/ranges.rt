@@ -1,4 +1,5 @@
 // "n, codes, counts and room numbers in range"
+// Modes are numbers, as the specification has them: a `match` with ranges catches every code outside.
 ghost use Rattle.std.specs.Prelude.{◌≡◌};
 ghost use Rattle.table.specs.Formed.{is_mode, is_granted, sizes_fit};
 
@@ -18,19 +19,19 @@ pub fn is_mode(m: u8) -> bool
 }
 
 // Whether a GRANT can be of this mode.
+#[tactic(auto, unfolding(table::specs::Formed::is_granted))]
 pub fn is_granted(m: u8) -> bool
     ensures { result ≡ is_granted m }
 {
     match m {
-        NONE => false,
-        IR..=R => true,
-        U => false,
-        IW => true,
+        NONE | U => false,
+        IR | R | IW => true,
         W..=255 => false,
     }
 }
 
 // Whether there can be so many rooms, places of the queue in use and messages.
+#[tactic(auto, unfolding(table::specs::Formed::sizes_fit))]
 pub fn sizes_fit(n: u8, queued: usize, count: usize) -> bool
     ensures { result ≡ sizes_fit n queued count }
 {

@@ -1,25 +1,24 @@
-// The messages: what each holds and names, and wires that are blank.
+// The messages: what each holds and names, and the wires that are not in use, which are blank.
 ghost use Rattle.std.specs.Prelude.{◌≡◌};
-ghost use Rattle.table.specs.Formed.{message_fine, names_rightly, is_blank_wire};
+ghost use Rattle.std.specs.List.{list_all};
+ghost use Rattle.table.specs.Formed.{message_fine, names_rightly, wire_fine, is_blank_wire};
 ghost use Rattle.formed.specs.Standings.{rooms_of};
-ghost use Rattle.formed.specs.Parts.{wire_place_fine};
 ghost use Rattle.formed.specs.Names.{carried_by};
 
 use super::ranges::{is_granted, is_mode};
-use super::standing_at;
 use modes::is_code;
-use records::Standing;
-use room::ROOMS;
-use table::{Message, Wire};
+use records::Standings;
+use table::{Message, NO_WIRE, Wire};
 
-// The room that a message names, ROOMS for none, and how many tokens the message carries.
+// The room that a message names, and how many tokens it carries.
 #[derive(Clone, Copy)]
 pub struct Carried {
-    pub room: usize,
+    pub room: Option<u8>,
     pub tokens: usize,
 }
 
 // The codes and the room number in a message.
+#[tactic(auto, unfolding(table::specs::Formed::message_fine))]
 fn message_fine(n: u8, message: Message) -> bool
     ensures { result ≡ message_fine n message }
 {
@@ -32,82 +31,63 @@ fn message_fine(n: u8, message: Message) -> bool
     }
 }
 
-// Whether a message to room `to` names a room that waits for its mode, and is no GRANT to the room with the token.
-fn names_rightly(rooms: [Standing; ROOMS], to: u8, message: Message) -> bool
-    ensures { result ≡ names_rightly (rooms_of rooms) to message }
+// Whether a message names a room that waits for its mode, and is no GRANT to the room with the token.
+#[tactic(auto, unfolding(table::specs::Formed::names_rightly, table::specs::Formed::due))]
+fn names_rightly(standings: &Standings, w: Wire) -> bool
+    ensures { result ≡ names_rightly (rooms_of standings.now.rooms) w.to w.message }
 {
-    let room = standing_at(rooms, to);
-    match message {
-        Message::Nothing => true,
-        Message::Request { origin, mode, .. } => standing_at(rooms, origin).due == mode,
-        Message::Grant { mode, .. } => room.due == mode && !room.token,
-        Message::Token { mode, .. } => room.due == mode,
-        Message::Reduce { .. } => true,
+    match w.message {
+        Message::Nothing | Message::Reduce { .. } => true,
+        Message::Request { origin, mode, .. } => standings.of(origin).due == mode,
+        Message::Grant { mode, .. } => {
+            let room = standings.of(w.to);
+            room.due == mode && !room.token
+        }
+        Message::Token { mode, .. } => standings.of(w.to).due == mode,
     }
 }
 
-// A wire that is not in use.
-fn wire_blank(w: Wire) -> bool
-    ensures { result ≡ is_blank_wire w }
+// A wire in use: it goes from one of n rooms to another, with a message as it should be.
+#[tactic(auto, unfolding(table::specs::Formed::wire_fine))]
+pub fn wire_fine(standings: &Standings, w: Wire) -> bool
+    ensures { result ≡ wire_fine standings.now.n (rooms_of standings.now.rooms) w }
 {
-    let message = w.message;
-    match message {
-        Message::Nothing => w.from == 0 && w.to == 0,
-        Message::Request { .. } => false,
-        Message::Grant { .. } => false,
-        Message::Token { .. } => false,
-        Message::Reduce { .. } => false,
-    }
+    w.from < standings.n
+        && w.to < standings.n
+        && w.from != w.to
+        && message_fine(standings.n, w.message)
+        && names_rightly(standings, w)
 }
 
-// A wire: where it is in use it goes from one of n rooms to another, with a message as it should be; else it is blank.
-pub fn wire_fine(n: u8, rooms: [Standing; ROOMS], used: bool, w: Wire) -> bool
-    ensures { result ≡ wire_place_fine n rooms used w }
+// Whether wires that are not in use are blank.
+#[tactic(auto, unfolding(table::specs::Formed::is_blank_wire, table::specs::Formed::is_nothing))]
+pub fn are_blank(wires: &[Wire]) -> bool
+    ensures { result ≡ list_all is_blank_wire wires.now }
 {
-    if !used {
-        return wire_blank(w);
-    }
-    if w.from >= n {
-        return false;
-    }
-    if w.to >= n {
-        return false;
-    }
-    if w.from == w.to {
-        return false;
-    }
-    let message = w.message;
-    if !message_fine(n, message) {
-        return false;
-    }
-    names_rightly(rooms, w.to, message)
+    wires.iter().all(|w| *w == NO_WIRE)
 }
 
 // The room that a message names and the tokens that it carries.
+#[tactic(auto, unfolding(crate::specs::Names::carried_by))]
 pub fn carried_by(w: Wire) -> Carried
     ensures { result ≡ carried_by w.to w.message }
 {
-    let message = w.message;
-    match message {
-        Message::Nothing => Carried {
-            room: ROOMS,
+    match w.message {
+        Message::Nothing | Message::Reduce { .. } => Carried {
+            room: None,
             tokens: 0,
         },
         Message::Request { origin, .. } => Carried {
-            room: origin as usize,
+            room: Some(origin),
             tokens: 0,
         },
         Message::Grant { .. } => Carried {
-            room: w.to as usize,
+            room: Some(w.to),
             tokens: 0,
         },
         Message::Token { .. } => Carried {
-            room: w.to as usize,
+            room: Some(w.to),
             tokens: 1,
-        },
-        Message::Reduce { .. } => Carried {
-            room: ROOMS,
-            tokens: 0,
         },
     }
 }

@@ -11,7 +11,7 @@ use Rattle.room.specs.declared.Room.{Room}
 use Rattle.room.specs.Record.{no_room}
 use Rattle.table.specs.declared.Table.{Table}
 use Rattle.table.specs.declared.Wire.{Wire}
-use Rattle.table.specs.declared.Answer.{Answer}
+use Rattle.table.specs.Tables.{Answer}
 use Rattle.table.specs.Limits.{queue_limit, wire_limit}
 use Rattle.table.specs.Tables.{no_wire, no_queued, room_at, queue_of, messages_of}
 use Rattle.table.specs.Formed.{well_formed}

@@ -6,11 +6,11 @@ use Rattle.std.proofs.Common.{arith, eqb-true}
 use Rattle.std.proofs.lemmas.Bool.{eqb-false}
 use Rattle.base.specs.Choice.{by-test, split}
 use Rattle.base.specs.Lists.{remove}
+use Rattle.std.specs.Prelude.{Option, Some, None}
 use Rattle.table.specs.declared.Table.{Table}
 use Rattle.table.specs.declared.Wire.{Wire}
-use Rattle.table.specs.declared.Answer.{Answer}
+use Rattle.table.specs.Tables.{Answer}
 use Rattle.table.specs.declared.Found.{Found}
-use Rattle.table.specs.declared.Found.TheVariants as found
 use Rattle.table.specs.Limits.{wire_limit}
 use Rattle.table.specs.Tables.{room_at, messages_of, answer}
 use Rattle.table.specs.Oldest.{oldest_of}
@@ -36,13 +36,13 @@ abbrev Fine : Answer → Type 0
 Fine r = r.«number» ≡ 0 → Lawful r.table
 
 module _ (t : Table) (s : Shaped t) (f : WellFormed t) (u : NoOwnRequest (room_at t) (messages_of t)) where
-  delivered-fine : (a b : ℕ) (r : Found) → oldest_of t a b ≡ r → Fine (delivered t a b r)
+  delivered-fine : (a b : ℕ) (r : Option Found) → oldest_of t a b ≡ r → Fine (delivered t a b r)
   unfolding delivered
-  delivered-fine a b found.Nothing h z = absurd (omega arith)
-  delivered-fine a b (found.At k m) h z =
-      let taken = take-oldest t s f u a b k m h in
-      outcome-lawful t s f (remove k (messages_of t)) (receive (work_at t b) a m)
-      (receive-kept t.n (room_at t) (remove k (messages_of t)) (work_at t b) a m taken.right taken.at) z
+  delivered-fine a b None h z = absurd (omega arith)
+  delivered-fine a b (Some found) h z =
+      let taken = take-oldest t s f u a b found.place found.message h in
+      outcome-lawful t s f (remove found.place (messages_of t)) (receive (work_at t b) a found.message)
+      (receive-kept t.n (room_at t) (remove found.place (messages_of t)) (work_at t b) a found.message taken.right taken.at) z
 
   made-fine : (e : Event) → Accepted t e → Fine (made t e)
   unfolding made
@@ -80,10 +80,10 @@ module _ (t : Table) where
       by-test Stays w.worn _ _ (λ e h. refl) λ e.
       by-test Stays (ltb wire_limit (length (kept ++ w.sent))) _ _ (λ l h. refl) (λ l h. absurd (h refl))
 
-  delivered-stays : (a b : ℕ) (r : Found) → Stays (delivered t a b r)
+  delivered-stays : (a b : ℕ) (r : Option Found) → Stays (delivered t a b r)
   unfolding delivered
-  delivered-stays a b found.Nothing = λ h. refl
-  delivered-stays a b (found.At k m) = outcome-stays (remove k (messages_of t)) (receive (work_at t b) a m)
+  delivered-stays a b None = λ h. refl
+  delivered-stays a b (Some found) = outcome-stays (remove found.place (messages_of t)) (receive (work_at t b) a found.message)
 
   made-stays : (e : Event) → Stays (made t e)
   unfolding made

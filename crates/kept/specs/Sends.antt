@@ -3,8 +3,9 @@ use Rattle.std.proofs.Math.Path.{◌≡◌, refl}
 use Rattle.std.specs.Prelude.{◌≢◌, Bool, false, List, ℕ, ◌≤◌, ◌<◌}
 use native.Mathlib.Omega.{arith}
 use Rattle.modes.specs.Codes.{W}
+use Rattle.std.specs.Prelude.{Option}
 use Rattle.room.specs.declared.Room.{Room}
-use Rattle.room.specs.declared.Send.{Send}
+use Rattle.room.specs.declared.Reduce.{Reduce}
 use Rattle.room.specs.Limits.{nobody}
 use Rattle.room.specs.Rules.{leaving}
 use Rattle.table.specs.declared.Wire.{Wire}
@@ -62,5 +63,5 @@ pub put-leaving : (n : ℕ) (rooms : ℕ → Room) (kept : List Wire) (w : Work)
     → (r.lender ≢ nobody → r.lender < n) → r.lender ≢ w.me → Whole n rooms kept w → Whole n rooms kept (send_out w (leaving r a))
 unfolding send_out
 put-leaving n rooms kept w r a low other k =
-    leaving-send r a (λ (s : Send). Whole n rooms kept (send_out w s)) (λ e. k)
+    leaving-send r a (λ (s : Option Reduce). Whole n rooms kept (send_out w s)) (λ e. k)
     (λ e. put-reduce n rooms kept w r.lender (low e) other r.link 0 (omega arith) k)

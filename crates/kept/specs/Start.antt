@@ -4,11 +4,12 @@ use Rattle.std.proofs.Common.{append-nil, arith}
 use Rattle.base.specs.Sums.{one}
 use Rattle.base.specs.Lists.{remove, mem-at}
 use Rattle.room.specs.declared.Room.{Room}
+use Rattle.std.specs.Prelude.{Some}
+use Rattle.table.specs.Oldest.{found_at}
 use Rattle.table.specs.declared.Table.{Table}
 use Rattle.table.specs.declared.Wire.{Wire}
 use Rattle.table.specs.declared.Queued.{Queued}
 use Rattle.table.specs.declared.Message.{Message}
-use Rattle.table.specs.declared.Found.TheVariants as found
 use Rattle.table.specs.Tables.{no_wire, room_at, queue_of, messages_of}
 use Rattle.table.specs.Oldest.{oldest_of}
 use Rattle.table.specs.Formed.{is_named_in, is_token}
@@ -70,7 +71,7 @@ module _ (t : Table) (s : Shaped t) (f : WellFormed t) (u : NoOwnRequest (room_a
     pub right : Right t.n (now (room_at t) (work_at t b)) (record { «from» = a; to = b; message = m })
     pub at : At t.n (room_at t) (remove k (messages_of t)) (work_at t b) (λ c. one (is_named_in c b m)) (one (is_token m))
 
-  pub take-oldest : (a b k : ℕ) (m : Message) → oldest_of t a b ≡ found.At k m → Taken a b k m
+  pub take-oldest : (a b k : ℕ) (m : Message) → oldest_of t a b ≡ Some (found_at k m) → Taken a b k m
   take-oldest a b k m h =
       record {
         right = rw (same-rooms b) right;

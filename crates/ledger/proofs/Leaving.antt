@@ -5,8 +5,9 @@ use mathlib.Core.List.Memᴰ
 use native.Mathlib.Omega.{arith}
 use Rattle.std.proofs.Math.ListN.{get_or-append}
 use Rattle.base.specs.Lists.{Mem, mem-snoc, mem-at, remove}
+use Rattle.std.specs.Prelude.{Option}
 use Rattle.room.specs.declared.Room.{Room}
-use Rattle.room.specs.declared.Send.{Send}
+use Rattle.room.specs.declared.Reduce.{Reduce}
 use Rattle.room.specs.Limits.{room_limit, nobody}
 use Rattle.room.specs.Record.{with_modes, with_debt}
 use Rattle.room.specs.Rules.{credited, tokened_by}
@@ -94,7 +95,7 @@ module _ (n : ℕ) (old new : ℕ → Room) (messages : List Wire) (me : ℕ) (l
       → ((old me).lender ≢ nobody → Both (remove k (messages ++ (reduce ∷ [])))) → Both (remove k messages ++ leaving_sent me (old me) a)
   unfolding leaving_sent
   leaving-both f g =
-      leaving-send (old me) a (λ (s : Send). Both (remove k messages ++ sent_by me s))
+      leaving-send (old me) a (λ (s : Option Reduce). Both (remove k messages ++ sent_by me s))
       (λ b. rw (append-nil (remove k messages)) (f b)) (λ b. rw (← remove-front messages reduce k o.low) (g b))
 
   -- "GRANT"

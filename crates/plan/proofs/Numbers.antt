@@ -6,12 +6,12 @@ use native.Mathlib.Omega.{arith}
 use lib.Dec.{eqb, ltb}
 use borrow.Author.Tests.{le-leb, lt-leb, eq-eqb, ne_eqb}
 use Rattle.base.specs.Below.{all_below, all-at}
+use Rattle.std.specs.Prelude.{Option, Some, None}
 use Rattle.table.specs.declared.Table.{Table}
 use Rattle.table.specs.declared.Message.{Message}
 use Rattle.table.specs.declared.Found.{Found}
-use Rattle.table.specs.declared.Found.TheVariants as found
 use Rattle.table.specs.Tables.{room_at}
-use Rattle.table.specs.Oldest.{oldest_of}
+use Rattle.table.specs.Oldest.{found_at, oldest_of}
 use Rattle.table.specs.Limits.{wire_limit}
 use Rattle.room.specs.Limits.{room_limit}
 use Rattle.rules.specs.declared.Event.{Event}
@@ -22,8 +22,7 @@ use Rattle.rules.specs.Refusals.{first, refusal_as, is_found, any_worn}
 use Rattle.act.specs.declared.Done.{Done}
 use Rattle.act.specs.declared.Start.{Start}
 use Rattle.act.specs.Done.{start_of, done_of}
-use Rattle.plan.specs.declared.Plan.{Plan}
-use Rattle.plan.specs.Plans.{start_at, made_plan, refused_plan, taking, doing, placed, plan_as, Begins}
+use Rattle.plan.specs.Plans.{Planned, start_at, made_plan, refused_plan, taking, doing, placed, plan_as, Begins}
 
 -- the kinds that there are
 known : (k : ℕ) → k < 4 → (eqb k 0 || eqb k 1 || eqb k 2 || eqb k 3) ≡ true
@@ -31,9 +30,9 @@ known k h = all-at 4 (λ k. eqb k 0 || eqb k 1 || eqb k 2 || eqb k 3) refl k h
 
 module _ (t : Table) (e : Event) where
   -- a number that is given is the plan
-  pub refused-is : (formed : Bool) (k : ℕ) → (k ≡ 0 → ⊥) → refusal_as formed t e ≡ k → (p : Plan) → p ≡ refused_plan k → p ≡ plan_as formed t e
+  pub refused-is : (formed : Bool) (k : ℕ) → (k ≡ 0 → ⊥) → refusal_as formed t e ≡ k → refused_plan k ≡ plan_as formed t e
   unfolding plan_as
-  refused-is formed k z h p q = q ∙ sym (simp (h, ne_eqb k 0 z))
+  refused-is formed k z h = sym (simp (h, ne_eqb k 0 z))
 
   -- the table is told to be ill formed, or has no places for what it says it has
   pub no_table : (formed : Bool) → formed ≡ false → refusal_as formed t e ≡ 1
@@ -53,7 +52,7 @@ module _ (t : Table) (e : Event) where
   messages-over formed h = simp (lt-leb _ _ h, and-false)
 
   -- else what is told is believed
-  pub told_is : (formed : Bool) → not formed ≡ false → t.n ≤ room_limit → t.count ≤ wire_limit → (p : Plan) → p ≡ plan_as true t e
+  pub told_is : (formed : Bool) → not formed ≡ false → t.n ≤ room_limit → t.count ≤ wire_limit → (p : Planned) → p ≡ plan_as true t e
       → p ≡ plan_as (formed && placed t) t e
   unfolding placed
   told_is true h n m p q = q ∙ simp (le-leb _ _ n, le-leb _ _ m)
@@ -105,9 +104,9 @@ module _ (t : Table) (e : Event) where
                 simp (b.kind, lt-leb _ _ b.room, le-leb 1 _ some, le-leb _ 5 code, eq-eqb _ _ free, eq-eqb _ _ empty, lt-leb _ _ few, h)
 
     pub ask-is : refusal_as true t e ≡ 0 → (s : Start) → s ≡ start_at e.room (room_at t e.room) t.queue t.queued
-        → (d : Done) → d ≡ done_of (ask (start_of s) e.mode) → (p : Plan) → p ≡ made_plan e.room t.count 0 d → p ≡ plan_as true t e
+        → (d : Done) → d ≡ done_of (ask (start_of s) e.mode) → made_plan e.room t.count 0 d ≡ plan_as true t e
     unfolding plan_as doing
-    ask-is h s i d o p q = q ∙ sym (simp (h, b.kind, o, i))
+    ask-is h s i d o = sym (simp (h, b.kind, o, i))
 
   module _ (b : Begins t e UPGRADE) where
     pub upgrade-waiting : ((room_at t e.room).wanted ≡ 0 → ⊥) → refusal_as true t e ≡ 5
@@ -120,9 +119,9 @@ module _ (t : Table) (e : Event) where
       upgrade-other h = simp (b.kind, lt-leb _ _ b.room, eq-eqb _ _ free, ne_eqb _ _ h)
 
       pub upgrade-is : (room_at t e.room).held ≡ 3 → (s : Start) → s ≡ start_at e.room (room_at t e.room) t.queue t.queued
-          → (d : Done) → d ≡ done_of (upgrade (start_of s)) → (p : Plan) → p ≡ made_plan e.room t.count 0 d → p ≡ plan_as true t e
+          → (d : Done) → d ≡ done_of (upgrade (start_of s)) → made_plan e.room t.count 0 d ≡ plan_as true t e
       unfolding plan_as doing refusal_as first
-      upgrade-is h s i d o p q = q ∙ sym (simp (b.kind, lt-leb _ _ b.room, eq-eqb _ _ free, eq-eqb _ _ h, o, i))
+      upgrade-is h s i d o = sym (simp (b.kind, lt-leb _ _ b.room, eq-eqb _ _ free, eq-eqb _ _ h, o, i))
 
   module _ (b : Begins t e HANDBACK) where
     pub back-waiting : ((room_at t e.room).wanted ≡ 0 → ⊥) → refusal_as true t e ≡ 5
@@ -135,21 +134,21 @@ module _ (t : Table) (e : Event) where
       back-empty h = simp (b.kind, lt-leb _ _ b.room, eq-eqb _ _ free, eq-eqb _ _ h)
 
       pub back_is : ((room_at t e.room).held ≡ 0 → ⊥) → (s : Start) → s ≡ start_at e.room (room_at t e.room) t.queue t.queued
-          → (d : Done) → d ≡ done_of (hand_back (start_of s)) → (p : Plan) → p ≡ made_plan e.room t.count 0 d → p ≡ plan_as true t e
+          → (d : Done) → d ≡ done_of (hand_back (start_of s)) → made_plan e.room t.count 0 d ≡ plan_as true t e
       unfolding plan_as doing refusal_as first
-      back_is h s i d o p q = q ∙ sym (simp (b.kind, lt-leb _ _ b.room, eq-eqb _ _ free, ne_eqb _ _ h, o, i))
+      back_is h s i d o = sym (simp (b.kind, lt-leb _ _ b.room, eq-eqb _ _ free, ne_eqb _ _ h, o, i))
 
   module _ (b : Begins t e DELIVER) where
     pub deliver-to : t.n ≤ e.other → refusal_as true t e ≡ 3
     unfolding refusal_as first
     deliver-to h = simp (b.kind, lt-leb _ _ b.room, le-leb _ _ h)
 
-    module _ (near : e.other < t.n) (r : Found) (l : r ≡ oldest_of t e.room e.other) where
-      pub deliver-empty : r ≡ found.Nothing → refusal_as true t e ≡ 8
+    module _ (near : e.other < t.n) (r : Option Found) (l : r ≡ oldest_of t e.room e.other) where
+      pub deliver-empty : r ≡ None → refusal_as true t e ≡ 8
       unfolding refusal_as first is_found
       deliver-empty h = simp (b.kind, lt-leb _ _ b.room, lt-leb _ _ near, sym l ∙ h)
 
-      pub deliver-is : (j : ℕ) (x : Message) → r ≡ found.At j x → (s : Start) → s ≡ start_at e.other (room_at t e.other) t.queue t.queued
-          → (d : Done) → d ≡ done_of (receive (start_of s) e.room x) → (p : Plan) → p ≡ made_plan e.other j 1 d → p ≡ plan_as true t e
+      pub deliver-is : (j : ℕ) (x : Message) → r ≡ Some (found_at j x) → (s : Start) → s ≡ start_at e.other (room_at t e.other) t.queue t.queued
+          → (d : Done) → d ≡ done_of (receive (start_of s) e.room x) → made_plan e.other j 1 d ≡ plan_as true t e
       unfolding plan_as doing taking refusal_as first is_found
-      deliver-is j x h s i d o p q = q ∙ sym (simp (b.kind, lt-leb _ _ b.room, lt-leb _ _ near, sym l ∙ h, o, i))
+      deliver-is j x h s i d o = sym (simp (b.kind, lt-leb _ _ b.room, lt-leb _ _ near, sym l ∙ h, o, i))

@@ -1,13 +1,13 @@
 -- A step as it is planned: a refusal, or what a room has done and which message it took.
-use Rattle.std.specs.Prelude.{ℕ, ◌≤◌, ◌<◌, ◌≡◌, Bool, false, ◌&&◌, List, replicate, leb, eqb, if◌then◌else◌}
+use Rattle.std.specs.Prelude.{ℕ, ◌≤◌, ◌<◌, ◌≡◌, Bool, false, ◌&&◌, List, replicate, leb, eqb, if◌then◌else◌, Option, Some, None, Result, Ok, Err}
 use Rattle.room.specs.declared.Room.{Room}
 use Rattle.room.specs.Limits.{room_limit}
 use Rattle.room.specs.Record.{blank_room}
 use Rattle.table.specs.declared.Queued.{Queued}
 use Rattle.table.specs.declared.Table.{Table}
 use Rattle.table.specs.declared.Found.{Found}
-use Rattle.table.specs.declared.Found.TheVariants as found
-use Rattle.table.specs.Numbers.{DONE, EMPTY}
+use Rattle.table.specs.declared.refusal.Refusal.{Refusal}
+use Rattle.table.specs.Numbers.{DONE, EMPTY, number_of}
 use Rattle.table.specs.Tables.{no_wire, no_queued}
 use Rattle.table.specs.Oldest.{oldest_of}
 use Rattle.table.specs.Limits.{wire_limit}
@@ -26,7 +26,15 @@ use Rattle.plan.specs.declared.Plan.{Plan}
 abbrev pub start_at : ℕ → Room → List Queued → ℕ → Start
 start_at me room queue queued = record { me = me; room = room; queue = queue; queued = queued }
 
-abbrev pub made_plan : ℕ → ℕ → ℕ → Done → Plan
+-- a plan, with the number that it is refused with
+pub record Planned : Type 0 where
+  pub «number» : ℕ
+  pub me : ℕ
+  pub place : ℕ
+  pub gap : ℕ
+  pub done : Done
+
+abbrev pub made_plan : ℕ → ℕ → ℕ → Done → Planned
 made_plan me place gap done = record { «number» = DONE; me = me; place = place; gap = gap; done = done }
 
 -- nothing done
@@ -34,16 +42,25 @@ abbrev pub idle : Done
 idle =
     record { room = blank_room; queue = replicate place_limit no_queued; queued = 0; out = replicate out_limit no_wire; sent = 0; worn = false }
 
-abbrev pub refused_plan : ℕ → Plan
+abbrev pub refused_plan : ℕ → Planned
 refused_plan k = record { «number» = k; me = 0; place = 0; gap = 0; done = idle }
 
+-- a plan that is made
+abbrev pub made_of : Plan → Planned
+made_of p = made_plan p.me p.place p.gap p.done
+
+-- what a result says
+abbrev pub planned_in : Result Plan Refusal → Planned
+planned_in (Ok p) = made_of p
+planned_in (Err refusal) = refused_plan (number_of refusal)
+
 -- the oldest message is taken out, and the receiver acts on it
-unfoldable pub taking : Table → ℕ → ℕ → Found → Plan
-taking t a b found.Nothing = refused_plan EMPTY
-taking t a b (found.At k m) = made_plan b k 1 (done_of (receive (work_at t b) a m))
+unfoldable pub taking : Table → ℕ → ℕ → Option Found → Planned
+taking t a b None = refused_plan EMPTY
+taking t a b (Some found) = made_plan b found.place 1 (done_of (receive (work_at t b) a found.message))
 
 -- what is done where no refusal applies: the other events take no message out
-unfoldable pub doing : Table → Event → Plan
+unfoldable pub doing : Table → Event → Planned
 doing t e =
     if is_ask e then made_plan e.room t.count 0 (done_of (ask (work_at t e.room) e.mode))
     else (if is_upgrade e then made_plan e.room t.count 0 (done_of (upgrade (work_at t e.room)))
@@ -55,7 +72,7 @@ unfoldable pub placed : Table → Bool
 placed t = leb t.n room_limit && leb t.count wire_limit
 
 -- the plan, where it is told whether the table is well formed
-unfoldable pub plan_as : Bool → Table → Event → Plan
+unfoldable pub plan_as : Bool → Table → Event → Planned
 plan_as formed t e =
     if eqb (refusal_as formed t e) DONE then doing t e else refused_plan (refusal_as formed t e)
 

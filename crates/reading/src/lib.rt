@@ -1,216 +1,140 @@
 // Reading a line: `n 3`, `a 1 R`, `u 1`, `h 1`, `d 0 1`, and every other byte string.
 #![tactic(auto)]
 
-ghost use Rattle.std.specs.Prelude.{◌≡◌, length};
-ghost use Rattle.reading.specs.Lines.{digit_of, number_of, short_mode, intent_of, mode_of, before, behind, fresh_command, own_command, ask_command, deliver_command, command_of};
+ghost use Rattle.std.specs.Prelude.{◌≡◌, ◌<◌, [], IfSome, IfNone};
+ghost use Rattle.reading.specs.Lines.{digit_of, number_of, mode_of, before, behind, fresh_command, own_command, ask_command, deliver_command, command_of};
 
 use rules::{ASK, DELIVER, Event, HANDBACK, UPGRADE};
 
-// What a line asks for: nothing that is known, a fresh table of n rooms, or an event.
-#[derive(Clone, Copy)]
+// What a line asks for: a fresh table of n rooms, or an event.
+#[derive(Clone, Copy, PartialEq, Eq)]
 pub enum Command {
-    Other,
     Fresh { n: u8 },
     Make { event: Event },
 }
 
-// What text that is no number reads as.
-const NO_NUMBER: u8 = 100;
-
-// The value of a digit.
-fn digit(b: u8) -> u8
-    ensures { result ≡ digit_of b }
+// The value of a digit. By hand: a char's `to_digit` gives a u32, which would have to be narrowed again, and `parse` takes a sign too.
+#[tactic(auto, unfolding(crate::specs::Lines::digit_of))]
+fn digit(b: u8) -> Option<u8>
+    ensures value { result ≡ digit_of b }
+    ensures small { IfSome result (λ d. d < 10) }
 {
     match b {
-        b'0'..=b'9' => b - b'0',
-        _ => NO_NUMBER,
+        b'0'..=b'9' => Some(b - b'0'),
+        _ => None,
     }
 }
 
 // A number of one or two digits.
-fn number_of(text: &[u8]) -> u8
+#[tactic(auto, unfolding(crate::specs::Lines::number_of))]
+fn number_of(text: &[u8]) -> Option<u8>
     ensures { result ≡ number_of text.now }
 {
-    if text.len() == 1 {
-        return digit(text[0]);
-    }
-    if text.len() != 2 {
-        return NO_NUMBER;
-    }
-    let tens = digit(text[0]);
-    let ones = digit(text[1]);
-    if tens == NO_NUMBER {
-        return NO_NUMBER;
-    }
-    if ones == NO_NUMBER {
-        return NO_NUMBER;
-    }
-    10 * tens + ones
-}
-
-// A mode of one letter.
-fn short_mode(a: u8) -> u8
-    ensures { result ≡ short_mode a }
-{
-    match a {
-        b'R' => modes::R,
-        b'U' => modes::U,
-        b'W' => modes::W,
-        _ => modes::NONE,
+    match text {
+        [ones] => digit(*ones),
+        [tens, ones] => {
+            let tens = digit(*tens)?;
+            let ones = digit(*ones)?;
+            Some(10 * tens + ones)
+        }
+        _ => None,
     }
 }
 
-// An intent: I, and then b.
-fn intent(b: u8) -> u8
-    ensures { result ≡ intent_of b }
-{
-    match b {
-        b'R' => modes::IR,
-        b'W' => modes::IW,
-        _ => modes::NONE,
-    }
-}
-
-// A mode's letters; none for any other text.
-fn mode_of(text: &[u8]) -> u8
+// A mode by its letters.
+#[tactic(auto, unfolding(crate::specs::Lines::mode_of, crate::specs::Lines::short_mode, crate::specs::Lines::intent_of))]
+fn mode_of(text: &[u8]) -> Option<u8>
     ensures { result ≡ mode_of text.now }
 {
-    if text.len() == 1 {
-        return short_mode(text[0]);
+    match text {
+        b"IR" => Some(modes::IR),
+        b"R" => Some(modes::R),
+        b"U" => Some(modes::U),
+        b"IW" => Some(modes::IW),
+        b"W" => Some(modes::W),
+        _ => None,
     }
-    if text.len() != 2 {
-        return modes::NONE;
-    }
-    if text[0] != b'I' {
-        return modes::NONE;
-    }
-    intent(text[1])
 }
 
-// The place of the first space; the end where there is none.
-fn space_in(text: &[u8]) -> usize
-    ensures { result ≡ length (before text.now) }
+// The text before the first space, and the text behind it.
+fn parts(text: &[u8]) -> Option<(&[u8], &[u8])>
+    ensures before { IfSome result (λ p. p.0.now ≡ before text.now) }
+    ensures behind { IfSome result (λ p. p.1.now ≡ behind text.now) }
+    ensures joined { IfNone result (behind text.now ≡ []) }
 {
-    let mut i: usize = 0;
-    while i < text.len() {
-        if text[i] == b' ' {
-            return i;
-        }
-        i += 1;
-    }
-    text.len()
+    let at = text.iter().position(|b| *b == b' ')?;
+    Some((&text[..at], &text[at + 1..]))
 }
 
-// `n 3`.
-fn fresh(n: u8) -> Command
-    ensures { result ≡ fresh_command n }
+// What follows `n `: a number.
+#[tactic(auto, unfolding(crate::specs::Lines::fresh_command))]
+fn fresh(rest: &[u8]) -> Option<Command>
+    ensures { result ≡ fresh_command (number_of rest.now) }
 {
-    if n == NO_NUMBER {
-        return Command::Other;
-    }
-    Command::Fresh { n: n }
+    let n = number_of(rest)?;
+    Some(Command::Fresh { n })
 }
 
-// `u 1`, `h 1`.
-fn own(kind: u8, x: u8) -> Command
-    ensures { result ≡ own_command kind x }
+// What follows `u ` and `h `: a number.
+#[tactic(auto, unfolding(crate::specs::Lines::own_command))]
+fn own(kind: u8, rest: &[u8]) -> Option<Command>
+    ensures { result ≡ own_command kind (number_of rest.now) }
 {
-    if x == NO_NUMBER {
-        return Command::Other;
-    }
+    let room = number_of(rest)?;
     let event = Event {
-        kind: kind,
-        room: x,
+        kind,
+        room,
         other: 0,
-        mode: 0,
+        mode: modes::NONE,
     };
-    Command::Make { event: event }
-}
-
-// `a 1 R`.
-fn asking(x: u8, m: u8) -> Command
-    ensures { result ≡ ask_command x m }
-{
-    if x == NO_NUMBER {
-        return Command::Other;
-    }
-    match m {
-        modes::NONE => Command::Other,
-        modes::IR..=255 => {
-            let event = Event {
-                kind: ASK,
-                room: x,
-                other: 0,
-                mode: m,
-            };
-            Command::Make { event: event }
-        }
-    }
-}
-
-// `d 0 1`.
-fn delivery(a: u8, b: u8) -> Command
-    ensures { result ≡ deliver_command a b }
-{
-    if a == NO_NUMBER {
-        return Command::Other;
-    }
-    if b == NO_NUMBER {
-        return Command::Other;
-    }
-    let event = Event {
-        kind: DELIVER,
-        room: a,
-        other: b,
-        mode: 0,
-    };
-    Command::Make { event: event }
+    Some(Command::Make { event })
 }
 
 // What follows `a `: a number, a space and a mode.
-fn ask(rest: &[u8]) -> Command
+#[tactic(auto, using(crate::proofs::Spaces::no_ask), unfolding(crate::specs::Lines::ask_command, crate::specs::Lines::mode_of))]
+fn ask(rest: &[u8]) -> Option<Command>
     ensures { result ≡ ask_command (number_of (before rest.now)) (mode_of (behind rest.now)) }
 {
-    let at = space_in(rest);
-    if at >= rest.len() {
-        return Command::Other;
-    }
-    let x = number_of(&rest[..at]);
-    let m = mode_of(&rest[at + 1..]);
-    asking(x, m)
+    let (room, mode) = parts(rest)?;
+    let room = number_of(room)?;
+    let mode = mode_of(mode)?;
+    let event = Event {
+        kind: ASK,
+        room,
+        other: 0,
+        mode,
+    };
+    Some(Command::Make { event })
 }
 
 // What follows `d `: a number, a space and a number.
-fn deliver(rest: &[u8]) -> Command
+#[tactic(auto, using(crate::proofs::Spaces::no_delivery), unfolding(crate::specs::Lines::deliver_command, crate::specs::Lines::number_of))]
+fn deliver(rest: &[u8]) -> Option<Command>
     ensures { result ≡ deliver_command (number_of (before rest.now)) (number_of (behind rest.now)) }
 {
-    let at = space_in(rest);
-    if at >= rest.len() {
-        return Command::Other;
-    }
-    let a = number_of(&rest[..at]);
-    let b = number_of(&rest[at + 1..]);
-    delivery(a, b)
+    let (from, to) = parts(rest)?;
+    let room = number_of(from)?;
+    let other = number_of(to)?;
+    let event = Event {
+        kind: DELIVER,
+        room,
+        other,
+        mode: modes::NONE,
+    };
+    Some(Command::Make { event })
 }
 
-// What a line asks for.
-pub fn read(line: &[u8]) -> Command
+// What a line asks for, if it is of a known form.
+#[tactic(auto, unfolding(crate::specs::Lines::command_of, crate::specs::Lines::order))]
+pub fn read(line: &[u8]) -> Option<Command>
     ensures { result ≡ command_of line.now }
 {
-    if line.len() < 2 {
-        return Command::Other;
-    }
-    if line[1] != b' ' {
-        return Command::Other;
-    }
-    let letter = line[0];
-    let rest = &line[2..];
-    match letter {
-        b'n' => fresh(number_of(rest)),
-        b'u' => own(UPGRADE, number_of(rest)),
-        b'h' => own(HANDBACK, number_of(rest)),
-        b'a' => ask(rest),
-        b'd' => deliver(rest),
-        _ => Command::Other,
+    match line {
+        [b'n', b' ', rest @ ..] => fresh(rest),
+        [b'u', b' ', rest @ ..] => own(UPGRADE, rest),
+        [b'h', b' ', rest @ ..] => own(HANDBACK, rest),
+        [b'a', b' ', rest @ ..] => ask(rest),
+        [b'd', b' ', rest @ ..] => deliver(rest),
+        _ => None,
     }
 }

@@ -1,10 +1,12 @@
 // The rooms' records: each as it should be, or blank, and what is seen of them.
+// Modes are numbers here, as in the specification: a `match` with ranges catches every code outside, and NONE is a mode.
 #![tactic(auto)]
 
-ghost use Rattle.std.specs.Prelude.{◌≡◌};
-ghost use Rattle.table.specs.Formed.{entry_fine, entries_fine, holds_rightly, owes_rightly, is_blank_room};
+ghost use Rattle.std.specs.Prelude.{◌≡◌, ◌≤◌};
+ghost use Rattle.room.specs.Limits.{room_limit};
+ghost use Rattle.table.specs.Formed.{entry_fine, entries_fine, holds_rightly, owes_rightly};
 ghost use Rattle.records.specs.Parts.{room_place_fine};
-ghost use Rattle.records.specs.Seen.{standing, seen_in};
+ghost use Rattle.records.specs.Seen.{no_standing, standing, standing_at, seen_in};
 
 use modes::{IR, IW, NONE, R, U, W, is_code};
 use room::{Entry, NOBODY, ROOMS, Room};
@@ -17,136 +19,112 @@ pub struct Standing {
 }
 
 // Of a room that does not wait and has no token.
-pub const NO_STANDING: Standing = Standing {
+const NO_STANDING: Standing = Standing {
     due: NONE,
     token: false,
 };
 
-// Whether all rooms are as they should be; if so, how many have the token, and each room's standing.
+// The rooms of a table, told by their standings: n of them are in use.
 #[derive(Clone, Copy)]
-pub struct Seen {
-    pub fine: bool,
-    pub tokens: usize,
+pub struct Standings {
+    pub n: u8,
     pub rooms: [Standing; ROOMS],
 }
 
-// Whether an entry for room j can stand in the record of room c of n.
+impl Standings {
+    // The standing of room c; none where there is no such room.
+    pub fn of(&self, c: u8) -> Standing
+        ensures value { result ≡ standing_at self.now.rooms c }
+        ensures past { room_limit ≤ c → result ≡ no_standing }
+    {
+        self.rooms
+            .get(usize::from(c))
+            .copied()
+            .unwrap_or(NO_STANDING)
+    }
+}
+
+// What is seen of rooms that are all as they should be: how many have the token, and each room's standing.
+#[derive(Clone, Copy)]
+pub struct Seen {
+    pub tokens: usize,
+    pub standings: Standings,
+}
+
+// Whether an entry for room j can stand in the record of room c of n. Here and below n and c are two numbers, as in the
+// specification's clauses: a struct of both would say no more.
+#[tactic(auto, unfolding(table::specs::Formed::entry_fine))]
 fn entry_fine(n: u8, c: u8, j: u8, e: Entry) -> bool
     ensures { result ≡ entry_fine n c j e }
 {
-    let mode = e.mode;
-    match mode {
+    match e.mode {
         NONE => e.link == 0,
         IR..=W => j < n && j != c,
         6..=255 => false,
     }
 }
 
-// The entries of room c of n. Where n is 0 they must all be none.
-fn entries_fine(n: u8, c: u8, entries: [Entry; ROOMS]) -> bool
-    ensures { result ≡ entries_fine n c entries }
+// The entries of room c of n.
+fn entries_fine(n: u8, c: u8, entries: &[Entry; ROOMS]) -> bool
+    ensures { result ≡ entries_fine n c entries.now }
 {
-    let mut j: usize = 0;
-    while j < ROOMS {
-        let e = entries[j];
-        if !entry_fine(n, c, j as u8, e) {
-            return false;
-        }
-        j += 1;
-    }
-    true
+    entries
+        .iter()
+        .enumerate()
+        .all(|(j, e)| entry_fine(n, c, j as u8, *e))
 }
 
 // A room's held and wanted modes: U and W are held only with the token, and W alone may be wanted beside U.
+#[tactic(auto, unfolding(table::specs::Formed::holds_rightly))]
 fn holds_rightly(held: u8, wanted: u8, token: bool) -> bool
     ensures { result ≡ holds_rightly held wanted token }
 {
     match held {
         NONE => is_code(wanted),
-        IR..=R => wanted == NONE,
+        IR | R | IW => wanted == NONE,
         U => token && (wanted == NONE || wanted == W),
-        IW => wanted == NONE,
         W => token && wanted == NONE,
         6..=255 => false,
     }
 }
 
 // The lender, the credit and the link number of room c of n. A lender below n is not NOBODY.
+#[tactic(auto, unfolding(table::specs::Formed::owes_rightly))]
 fn owes_rightly(n: u8, c: u8, r: Room) -> bool
     ensures { result ≡ owes_rightly n c r }
 {
     if r.lender == c {
         return false;
     }
-    let credit = r.credit;
-    match credit {
+    match r.credit {
         NONE => r.lender == NOBODY && r.link == 0,
         IR..=W => r.lender < n && !r.token,
         6..=255 => false,
     }
 }
 
-// Whether a record is all none or zero.
-fn room_blank(r: Room) -> bool
-    ensures { result ≡ is_blank_room r }
-{
-    if r.held != NONE {
-        return false;
-    }
-    if r.wanted != NONE {
-        return false;
-    }
-    if r.token {
-        return false;
-    }
-    if r.toward != 0 {
-        return false;
-    }
-    if r.lender != NOBODY {
-        return false;
-    }
-    if r.credit != NONE {
-        return false;
-    }
-    if r.link != 0 {
-        return false;
-    }
-    if r.counter != 0 {
-        return false;
-    }
-    let entries = r.entries;
-    entries_fine(0, 0, entries)
-}
-
 // The record at place c: as it should be where the place is one of n in use, else blank.
+#[tactic(auto, unfolding(crate::specs::Parts::room_place_fine, table::specs::Formed::room_fine))]
 fn room_fine(n: u8, c: u8, r: Room) -> bool
     ensures { result ≡ room_place_fine n c r }
 {
     if c >= n {
-        return room_blank(r);
+        return r == Room::blank();
     }
-    if r.toward >= n {
-        return false;
-    }
-    if (r.toward == c) != r.token {
-        return false;
-    }
-    if !holds_rightly(r.held, r.wanted, r.token) {
-        return false;
-    }
-    if !owes_rightly(n, c, r) {
-        return false;
-    }
-    let entries = r.entries;
-    entries_fine(n, c, entries)
+    r.toward < n
+        && (r.toward == c) == r.token
+        && holds_rightly(r.held, r.wanted, r.token)
+        && owes_rightly(n, c, r)
+        && entries_fine(n, c, &r.entries)
 }
 
 // A room's standing: with a held mode it waits for nothing, but perhaps for an upgrade, which nobody names.
+// No `From`: a standing is less than a record, and not a record in another form.
+#[tactic(auto, unfolding(crate::specs::Seen::standing, table::specs::Formed::due))]
 fn standing_of(r: Room) -> Standing
     ensures { result ≡ standing r }
 {
-    let held = r.held;
-    match held {
+    match r.held {
         NONE => Standing {
             due: r.wanted,
             token: r.token,
@@ -158,32 +136,24 @@ fn standing_of(r: Room) -> Standing
     }
 }
 
-// All the rooms, of which n are in use.
-pub fn look_over(n: u8, rooms: [Room; ROOMS]) -> Seen
-    ensures { result ≡ seen_in n rooms }
+// All the rooms, of which n are in use; nothing where one is not as it should be.
+pub fn look_over(n: u8, rooms: &[Room; ROOMS]) -> Option<Seen>
+    ensures { result ≡ seen_in n rooms.now }
 {
-    let none = [NO_STANDING; ROOMS];
-    let mut standings = none;
-    let mut tokens: usize = 0;
-    let mut c: usize = 0;
-    while c < ROOMS {
-        let r = rooms[c];
-        if !room_fine(n, c as u8, r) {
-            return Seen {
-                fine: false,
-                tokens: 0,
-                rooms: none,
-            };
+    let mut standings = [NO_STANDING; ROOMS];
+    let mut tokens = 0;
+    for (c, r) in rooms.iter().enumerate() {
+        if !room_fine(n, c as u8, *r) {
+            return None;
         }
-        standings[c] = standing_of(r);
-        if r.token {
-            tokens += 1;
-        }
-        c += 1;
+        standings[c] = standing_of(*r);
+        tokens += usize::from(r.token);
     }
-    Seen {
-        fine: true,
-        tokens: tokens,
-        rooms: standings,
-    }
+    Some(Seen {
+        tokens,
+        standings: Standings {
+            n,
+            rooms: standings,
+        },
+    })
 }

@@ -6,17 +6,17 @@ use native.Mathlib.Numerals.{add-one}
 use lib.ListN.{length, get_or-eq_default}
 use lib.Seq.{set_out}
 use borrow.Author.Tests.{lt-ltb, le-ltb, eq-eqb, ne_eqb, not-true, not-false}
+use Rattle.std.proofs.Common.{Option, Some, None, min, arith}
 use Rattle.base.specs.Below.{all_below}
 use lib.Dec.{eqb, leb}
 use Rattle.modes.specs.Modes.{is_stronger}
 use Rattle.room.specs.declared.Room.{Room}
 use Rattle.room.specs.declared.Entry.{Entry}
-use Rattle.room.specs.declared.Send.{Send}
-use Rattle.room.specs.declared.Send.TheVariants as send
+use Rattle.room.specs.declared.Reduce.{Reduce}
 use Rattle.room.specs.Limits.{nobody, last_link, room_limit}
 use Rattle.room.specs.Record.{no_entry, entry_of, entry_at, with_modes, with_token, with_debt, with_counter, set_entry}
 use Rattle.room.specs.Owned.{larger, strongest, owned, has_no_entries}
-use Rattle.room.specs.Rules.{next_link, is_worn, lent_to, lent, left, remaining, passed_to, passed, credited, settled, leaving, granted, lifted, tokened_by, tokened, reduced}
+use Rattle.room.specs.Rules.{next_link, is_worn, lent_to, lent, left, remaining, passed_to, passed, credited, reduce_to, settled, leaving, granted, lifted, tokened_by, tokened, reduced}
 
 module _ (mode link : ℕ) where
   pub entry-none : mode ≡ 0 → no_entry ≡ entry_of mode link
@@ -60,14 +60,10 @@ pub no-entries-all : (r : Room) → all_below room_limit (λ j. eqb (entry_at r 
 unfolding has_no_entries
 no-entries-all r = refl
 
-module _ (k : ℕ) where
-  pub next_more : k < last_link → k + 1 ≡ next_link k
-  unfolding next_link
-  next_more h = simp (lt-ltb _ _ h)
-
-  pub next_last : last_link ≤ k → last_link ≡ next_link k
-  unfolding next_link
-  next_last h = simp (le-ltb _ _ h)
+-- the sum that stays at the last number is the next one
+pub next-saturates : (k l : ℕ) → l ≡ min (k + 1) last_link → l ≡ next_link k
+unfolding next_link
+next-saturates k l e = grind (arith, lt-ltb, le-ltb)
 
 -- what a loan leaves, at the values that the calls give
 module _ (r : Room) (y m : ℕ) where
@@ -87,38 +83,38 @@ module _ (r : Room) (w l : ℕ) (p : l ≡ next_link r.counter) (s : Room) (u : 
   passed-free h = rw (q, u, p) (simp (eq-eqb _ _ (rw (q, u) at h)))
 
 module _ (r : Room) (o : ℕ) (p : o ≡ owned r) (s : Bool) (e : s ≡ is_stronger r.credit o) where
-  pub settled-kept : not s ≡ true → record { room = r; send = send.Nothing } ≡ settled r
+  pub settled-kept : not s ≡ true → record { room = r; send = None } ≡ settled r
   unfolding settled
   settled-kept h = simp (rw p at (sym e ∙ not-true s h))
 
   module _ (h : not s ≡ false) where
-    pub settled-none : o ≡ 0 → record { room = with_debt r nobody o 0; send = send.Reduce r.lender r.link o } ≡ settled r
+    pub settled-none : o ≡ 0 → record { room = with_debt r nobody o 0; send = Some (reduce_to r o) } ≡ settled r
     unfolding settled credited
     settled-none k = rw p (simp (rw p at (sym e ∙ not-false s h), eq-eqb _ _ (rw p at k)))
 
-    pub settled-some : (o ≡ 0 → ⊥) → record { room = with_debt r r.lender o r.link; send = send.Reduce r.lender r.link o } ≡ settled r
+    pub settled-some : (o ≡ 0 → ⊥) → record { room = with_debt r r.lender o r.link; send = Some (reduce_to r o) } ≡ settled r
     unfolding settled credited
     settled-some k = rw p (simp (rw p at (sym e ∙ not-false s h), ne_eqb _ _ (rw p at k)))
 
 module _ (r : Room) (a : ℕ) where
-  pub leaving-nobody : r.lender ≡ nobody → send.Nothing ≡ leaving r a
+  pub leaving-nobody : r.lender ≡ nobody → None ≡ leaving r a
   unfolding leaving
   leaving-nobody h = simp (eq-eqb _ _ h)
 
   module _ (h : r.lender ≡ nobody → ⊥) where
-    pub leaving-same : r.lender ≡ a → send.Nothing ≡ leaving r a
+    pub leaving-same : r.lender ≡ a → None ≡ leaving r a
     unfolding leaving
     leaving-same k = simp (ne_eqb _ _ h, eq-eqb _ _ k)
 
-    pub leaving-other : (r.lender ≡ a → ⊥) → send.Reduce r.lender r.link 0 ≡ leaving r a
+    pub leaving-other : (r.lender ≡ a → ⊥) → Some (reduce_to r 0) ≡ leaving r a
     unfolding leaving
     leaving-other k = simp (ne_eqb _ _ h, ne_eqb _ _ k)
 
-pub granted-is : (r : Room) (a m l : ℕ) (s : Send) → s ≡ leaving r a → record { room = with_debt (with_modes r m 0) a m l; send = s } ≡ granted r a m l
+pub granted-is : (r : Room) (a m l : ℕ) (s : Option Reduce) → s ≡ leaving r a → record { room = with_debt (with_modes r m 0) a m l; send = s } ≡ granted r a m l
 unfolding granted
 granted-is r a m l s e = rw e
 
-module _ (r : Room) (me a m rest l : ℕ) (s : Send) (p : s ≡ leaving r a) (e : Entry) (q : e ≡ entry_of rest l) (x : Room) (u : x ≡ set_entry r a e) where
+module _ (r : Room) (me a m rest l : ℕ) (s : Option Reduce) (p : s ≡ leaving r a) (e : Entry) (q : e ≡ entry_of rest l) (x : Room) (u : x ≡ set_entry r a e) where
   pub tokened-lifted : r.counter < l → record { room = with_counter (with_debt (with_token (with_modes x m 0) true me) nobody 0 0) l; send = s } ≡ tokened r me a m rest l
   unfolding tokened tokened_by lifted
   tokened-lifted h = rw (p, u, q) (simp (lt-ltb _ _ h))

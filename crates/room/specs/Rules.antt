@@ -1,13 +1,12 @@
 -- How one room's record changes when it lends, passes, settles, or takes a message, and what it sends.
-use Rattle.std.specs.Prelude.{ℕ, ◌+◌, Bool, true, false, ◌||◌, ◌&&◌, ltb, leb, eqb, if◌then◌else◌}
+use Rattle.std.specs.Prelude.{ℕ, ◌+◌, Bool, true, false, ◌||◌, ◌&&◌, Option, Some, None, ltb, leb, eqb, if◌then◌else◌}
 use Rattle.modes.specs.Codes.{none}
 use Rattle.modes.specs.Modes.{is_stronger}
 use Rattle.room.specs.declared.Room.{Room}
 use Rattle.room.specs.declared.Changed.{Changed}
 use Rattle.room.specs.declared.Lent.{Lent}
 use Rattle.room.specs.declared.Passed.{Passed}
-use Rattle.room.specs.declared.Send.{Send}
-use Rattle.room.specs.declared.Send.TheVariants as send
+use Rattle.room.specs.declared.Reduce.{Reduce}
 use Rattle.room.specs.Limits.{nobody, last_link}
 use Rattle.room.specs.Record.{no_entry, entry_of, entry_at, with_modes, with_token, with_debt, with_counter, set_entry}
 use Rattle.room.specs.Owned.{owned}
@@ -49,18 +48,22 @@ passed r w =
 unfoldable pub credited : Room → ℕ → Room
 credited r m = if eqb m none then with_debt r nobody m 0 else with_debt r r.lender m r.link
 
+-- a REDUCE to the lender under the record's link number
+abbrev pub reduce_to : Room → ℕ → Reduce
+reduce_to r m = record { to = r.lender; link = r.link; mode = m }
+
 -- "Settle (without the token): if owned is weaker than credit, send the lender REDUCE to owned"
 unfoldable pub settled : Room → Changed
 settled r =
     if is_stronger r.credit (owned r)
-    then record { room = credited r (owned r); send = send.Reduce r.lender r.link (owned r) }
-    else record { room = r; send = send.Nothing }
+    then record { room = credited r (owned r); send = Some (reduce_to r (owned r)) }
+    else record { room = r; send = None }
 
 -- "if b has a lender other than a, it sends that lender REDUCE to none under the old link"
-unfoldable pub leaving : Room → ℕ → Send
+unfoldable pub leaving : Room → ℕ → Option Reduce
 leaving r a =
-    if eqb r.lender nobody || eqb r.lender a then send.Nothing
-    else send.Reduce r.lender r.link none
+    if eqb r.lender nobody || eqb r.lender a then None
+    else Some (reduce_to r none)
 
 -- "GRANT: .. Then lender a, the new link number, credit and held the mode, wanted none."
 unfoldable pub granted : Room → ℕ → ℕ → ℕ → Changed

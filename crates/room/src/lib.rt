@@ -5,23 +5,23 @@
 ghost use Rattle.std.specs.Prelude.{◌≡◌};
 ghost use Rattle.room.specs.Record.{entry_at, set_entry, blank_room};
 ghost use Rattle.room.specs.Owned.{owned, has_no_entries};
-ghost use Rattle.room.specs.Rules.{lent, passed, settled, granted, tokened, reduced, leaving};
+ghost use Rattle.room.specs.Rules.{lent, passed, reduce_to, settled, granted, tokened, reduced, leaving};
 
 mod parts; // parts.rt: an entry, the stronger mode, the next link number
 
 use parts::{entry_of, larger, next_link};
 
-// The rooms that one table can have, and the entries of a record: one for each.
-pub const ROOMS: usize = 16;
-// The same number, as n has it.
+// The rooms that one table can have, as n has the number.
 pub const MOST_ROOMS: u8 = 16;
+// The same number as a length: of a table's records, and of a record's entries.
+pub const ROOMS: usize = MOST_ROOMS as usize;
 // In place of a lender's number: there is none.
 pub const NOBODY: u8 = 255;
 // No link number is above this one.
 pub const LAST_LINK: u32 = 4294967295;
 
 // What a room has lent to another: mode none means no entry.
-#[derive(Clone, Copy)]
+#[derive(Clone, Copy, PartialEq, Eq)]
 pub struct Entry {
     pub mode: u8,
     pub link: u32,
@@ -33,7 +33,7 @@ const NO_ENTRY: Entry = Entry {
     link: 0,
 };
 
-#[derive(Clone, Copy)]
+#[derive(Clone, Copy, PartialEq, Eq)]
 pub struct Room {
     pub held: u8,
     pub wanted: u8,
@@ -46,22 +46,24 @@ pub struct Room {
     pub entries: [Entry; ROOMS],
 }
 
-// What a changed record has to send to its lender.
-#[derive(Clone, Copy)]
-pub enum Send {
-    Nothing,
-    Reduce { to: u8, link: u32, mode: u8 },
+// A REDUCE that a record has to send to its lender.
+#[derive(Clone, Copy, PartialEq, Eq)]
+pub struct Reduce {
+    pub to: u8,
+    pub link: u32,
+    pub mode: u8,
 }
 
-// A record that has changed, and what it sends.
-#[derive(Clone, Copy)]
+// A record that has changed, and what it sends, if anything.
+#[derive(Clone, Copy, PartialEq, Eq)]
 pub struct Changed {
     pub room: Room,
-    pub send: Send,
+    pub send: Option<Reduce>,
 }
 
-// A record that has lent, the loan's link number, and whether a number above the last was needed.
-#[derive(Clone, Copy)]
+// A record that has lent, the loan's link number, and whether a number above the last was needed. The number stays beside the flag: the
+// rules lend under the last one again, and only the step as a whole is refused.
+#[derive(Clone, Copy, PartialEq, Eq)]
 pub struct Lent {
     pub room: Room,
     pub link: u32,
@@ -69,7 +71,7 @@ pub struct Lent {
 }
 
 // A record that has passed the token on, the owned mode that remains, and as for a loan.
-#[derive(Clone, Copy)]
+#[derive(Clone, Copy, PartialEq, Eq)]
 pub struct Passed {
     pub room: Room,
     pub rest: u8,
@@ -99,11 +101,7 @@ impl Room {
     fn entry(self, c: u8) -> Entry
         ensures { result ≡ entry_at self c }
     {
-        let at = c as usize;
-        if at < ROOMS {
-            return self.entries[at];
-        }
-        NO_ENTRY
+        self.entries.get(c as usize).copied().unwrap_or(NO_ENTRY)
     }
 
     // The record with this entry for room c, where it has a place for one.
@@ -114,7 +112,6 @@ impl Room {
         let mut room = self;
         if at < ROOMS {
             room.entries[at] = e;
-            return room;
         }
         room
     }
@@ -124,11 +121,8 @@ impl Room {
         ensures { result ≡ Rattle.room.specs.Owned.owned self }
     {
         let mut best = self.held;
-        let mut i: usize = 0;
-        while i < ROOMS {
-            let e = self.entries[i];
+        for e in &self.entries {
             best = larger(best, e.mode);
-            i += 1;
         }
         best
     }
@@ -137,15 +131,11 @@ impl Room {
     pub fn has_no_entries(self) -> bool
         ensures { result ≡ has_no_entries self }
     {
-        let mut i: usize = 0;
-        while i < ROOMS {
-            let e = self.entries[i];
-            let mode = e.mode;
-            match mode {
+        for e in &self.entries {
+            match e.mode {
                 modes::NONE => {}
                 modes::IR..=255 => return false,
             }
-            i += 1;
         }
         true
     }
@@ -158,8 +148,8 @@ impl Room {
         let mut room = self.with_entry(y, entry_of(m, link));
         room.counter = link;
         Lent {
-            room: room,
-            link: link,
+            room,
+            link,
             worn: self.counter >= LAST_LINK,
         }
     }
@@ -184,10 +174,21 @@ impl Room {
             }
         }
         Passed {
-            room: room,
-            rest: rest,
-            link: link,
-            worn: worn,
+            room,
+            rest,
+            link,
+            worn,
+        }
+    }
+
+    // The REDUCE to its lender by which what it owes falls to this mode.
+    fn reduce_to(self, mode: u8) -> Reduce
+        ensures { result ≡ reduce_to self mode }
+    {
+        Reduce {
+            to: self.lender,
+            link: self.link,
+            mode,
         }
     }
 
@@ -199,14 +200,10 @@ impl Room {
         if !modes::stronger(self.credit, now) {
             return Changed {
                 room: self,
-                send: Send::Nothing,
+                send: None,
             };
         }
-        let send = Send::Reduce {
-            to: self.lender,
-            link: self.link,
-            mode: now,
-        };
+        let send = Some(self.reduce_to(now));
         let mut room = self;
         room.credit = now;
         match now {
@@ -216,27 +213,17 @@ impl Room {
             }
             modes::IR..=255 => {}
         }
-        Changed {
-            room: room,
-            send: send,
-        }
+        Changed { room, send }
     }
 
     // What taking a loan or the token from a sends to another lender.
-    fn leave(self, a: u8) -> Send
+    fn leave(self, a: u8) -> Option<Reduce>
         ensures { result ≡ leaving self a }
     {
-        if self.lender == NOBODY {
-            return Send::Nothing;
+        if self.lender == NOBODY || self.lender == a {
+            return None;
         }
-        if self.lender == a {
-            return Send::Nothing;
-        }
-        Send::Reduce {
-            to: self.lender,
-            link: self.link,
-            mode: modes::NONE,
-        }
+        Some(self.reduce_to(modes::NONE))
     }
 
     // Take a GRANT from a.
@@ -250,10 +237,7 @@ impl Room {
         room.credit = mode;
         room.held = mode;
         room.wanted = modes::NONE;
-        Changed {
-            room: room,
-            send: send,
-        }
+        Changed { room, send }
     }
 
     // Take the TOKEN from a, as room me.
@@ -271,15 +255,8 @@ impl Room {
         room.link = 0;
         if self.counter < link {
             room.counter = link;
-            return Changed {
-                room: room,
-                send: send,
-            };
         }
-        Changed {
-            room: room,
-            send: send,
-        }
+        Changed { room, send }
     }
 
     // Take a REDUCE from a: only the loan that it names falls.

@@ -4,7 +4,7 @@ ghost use Rattle.room.specs.Record.{entry_of};
 ghost use Rattle.room.specs.Owned as owning;
 ghost use Rattle.room.specs.Rules.{next_link};
 
-use crate::{Entry, LAST_LINK, NO_ENTRY};
+use crate::{Entry, NO_ENTRY};
 
 // An entry of this mode; mode none has link number zero.
 pub fn entry_of(mode: u8, link: u32) -> Entry
@@ -12,10 +12,7 @@ pub fn entry_of(mode: u8, link: u32) -> Entry
 {
     match mode {
         modes::NONE => NO_ENTRY,
-        modes::IR..=255 => Entry {
-            mode: mode,
-            link: link,
-        },
+        modes::IR..=255 => Entry { mode, link },
     }
 }
 
@@ -30,9 +27,5 @@ pub fn larger(a: u8, b: u8) -> u8
 pub fn next_link(counter: u32) -> u32
     ensures { result ≡ next_link counter }
 {
-    if counter < LAST_LINK {
-        counter + 1
-    } else {
-        LAST_LINK
-    }
+    counter.saturating_add(1)
 }

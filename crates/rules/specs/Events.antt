@@ -1,7 +1,11 @@
 -- Events given as numbers. An argument that an event does not use is ignored.
-use Rattle.std.specs.Prelude.{ℕ, Bool, eqb}
+use Rattle.std.specs.Prelude.{◌≡◌, ℕ, ◌<◌, Bool, eqb, Result, MatchResult}
 use Rattle.modes.specs.Codes.{none}
+use Rattle.table.specs.declared.refusal.Refusal.{Refusal}
+use Rattle.table.specs.declared.refusal.Refusal.TheVariants as refusal
 use Rattle.rules.specs.declared.Event.{Event}
+use Rattle.rules.specs.declared.Kind.{Kind}
+use Rattle.rules.specs.declared.Kind.TheVariants as kind
 
 -- the kinds
 abbrev pub ASK : ℕ
@@ -15,6 +19,17 @@ HANDBACK = 2
 
 abbrev pub DELIVER : ℕ
 DELIVER = 3
+
+-- the number of each kind
+abbrev pub code_of : Kind → ℕ
+code_of kind.Ask = ASK
+code_of kind.Upgrade = UPGRADE
+code_of kind.HandBack = HANDBACK
+code_of kind.Deliver = DELIVER
+
+-- the result is the kind with this number; "2 EVENT: unknown kind"
+abbrev pub Decodes : ℕ → Result Kind Refusal → Type 0
+Decodes k r = MatchResult r (λ kind. code_of kind ≡ k) (λ why. (why ≡ refusal.Event) × (DELIVER < k))
 
 -- ASK(room, mode), UPGRADE(room), HANDBACK(room), DELIVER(room, other)
 abbrev pub is_ask : Event → Bool

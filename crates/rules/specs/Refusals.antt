@@ -2,9 +2,9 @@
 use Rattle.std.specs.Prelude.{ℕ, Bool, true, false, not, ◌&&◌, ◌||◌, List, [], ◌∷◌, ltb, leb, eqb, if◌then◌else◌}
 use Rattle.base.specs.Below.{all_below}
 use Rattle.modes.specs.Codes.{none, U}
+use Rattle.std.specs.Prelude.{Option, Some, None}
 use Rattle.table.specs.declared.Table.{Table}
 use Rattle.table.specs.declared.Found.{Found}
-use Rattle.table.specs.declared.Found.TheVariants as found
 use Rattle.table.specs.Numbers.{DONE, TABLE, EVENT, ROOM, MODE, WAITING, HELD, NOT-HELD, EMPTY, BUSY, WORN}
 use Rattle.table.specs.Tables.{room_at}
 use Rattle.table.specs.Oldest.{oldest_of}
@@ -26,9 +26,9 @@ unfoldable pub first : List Row → ℕ
 first [] = DONE
 first (r ∷ rows) = if r.given then r.«number» else first rows
 
-unfoldable pub is_found : Found → Bool
-is_found found.Nothing = false
-is_found (found.At k m) = true
+unfoldable pub is_found : Option Found → Bool
+is_found None = false
+is_found (Some found) = true
 
 -- "some counter at 4,294,967,000 or more"
 unfoldable pub any_worn : Table → Bool

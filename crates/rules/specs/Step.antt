@@ -2,11 +2,11 @@
 use Rattle.std.specs.Prelude.{ℕ, List, [], ◌∷◌, ◌++◌, length, set, ltb, eqb, if◌then◌else◌}
 use Rattle.base.specs.Lists.{remove}
 use Rattle.base.specs.Arrays.{padded}
+use Rattle.std.specs.Prelude.{Option, Some, None}
 use Rattle.table.specs.declared.Table.{Table}
 use Rattle.table.specs.declared.Wire.{Wire}
-use Rattle.table.specs.declared.Answer.{Answer}
+use Rattle.table.specs.Tables.{Answer}
 use Rattle.table.specs.declared.Found.{Found}
-use Rattle.table.specs.declared.Found.TheVariants as found
 use Rattle.table.specs.Limits.{queue_limit, wire_limit}
 use Rattle.table.specs.Numbers.{DONE, EMPTY, WORN, FULL}
 use Rattle.table.specs.Tables.{no_wire, no_queued, messages_of, answer}
@@ -38,9 +38,9 @@ outcome t kept w =
     else answer DONE (after t kept w))
 
 -- "DELIVER(a, b) takes the oldest message from a to b"
-unfoldable pub delivered : Table → ℕ → ℕ → Found → Answer
-delivered t a b found.Nothing = answer EMPTY t
-delivered t a b (found.At k m) = outcome t (remove k (messages_of t)) (receive (work_at t b) a m)
+unfoldable pub delivered : Table → ℕ → ℕ → Option Found → Answer
+delivered t a b None = answer EMPTY t
+delivered t a b (Some found) = outcome t (remove found.place (messages_of t)) (receive (work_at t b) a found.message)
 
 unfoldable pub made : Table → Event → Answer
 made t e =

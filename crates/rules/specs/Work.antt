@@ -1,8 +1,8 @@
 -- What one room does in a step. Every event changes one room's record, the queue where that room has the token, and what is sent.
 use Rattle.std.specs.Prelude.{ℕ, Bool, false, ◌||◌, List, [], ◌∷◌, ◌++◌}
+use Rattle.std.specs.Prelude.{Option, Some, None}
 use Rattle.room.specs.declared.Room.{Room}
-use Rattle.room.specs.declared.Send.{Send}
-use Rattle.room.specs.declared.Send.TheVariants as out
+use Rattle.room.specs.declared.Reduce.{Reduce}
 use Rattle.room.specs.declared.Changed.{Changed}
 use Rattle.table.specs.declared.Table.{Table}
 use Rattle.table.specs.declared.Wire.{Wire}
@@ -52,9 +52,9 @@ unfoldable pub join : Work → ℕ → ℕ → Work
 join w y m = with_queue w (w.queue ++ (record { room = y; mode = m } ∷ []))
 
 -- what a changed record sends, as a message
-unfoldable pub send_out : Work → Send → Work
-send_out w out.Nothing = w
-send_out w (out.Reduce to l m) = send w to (msg.Reduce l m)
+unfoldable pub send_out : Work → Option Reduce → Work
+send_out w None = w
+send_out w (Some reduce) = send w reduce.to (msg.Reduce reduce.link reduce.mode)
 
 -- a record that has changed, and what it sends
 abbrev pub change : Work → Changed → Work

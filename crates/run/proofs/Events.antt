@@ -1,18 +1,15 @@
--- The loop over the events: what the table is after those before a place.
-use mathlib.Core.Path.{◌≡◌, refl, sym, ◌∙◌, ap}
+-- The events that bytes are: none where less than four are left, else a first one and those of the bytes behind it.
+use mathlib.Core.Path.{◌≡◌, refl}
 use mathlib.Core.List.{List, [], ◌∷◌}
-use Prim.Native.Nat.{ℕ, suc, ◌+◌, ◌-◌, ◌≤◌, ◌<◌}
+use Prim.Native.Nat.{ℕ, ◌+◌, ◌≤◌, ◌<◌}
 use native.Mathlib.Omega.{arith}
-use native.Mathlib.Numerals.{unary_clauses}
-use lib.ListN.{length, drop, length-drop}
-use lib.Seq.{drop-cons}
+use lib.ListN.{length, take, drop}
+use Rattle.std.specs.Prelude.{fold, slice_index_or}
 use Rattle.table.specs.declared.Table.{Table}
-use Rattle.table.specs.declared.Answer.{Answer}
 use Rattle.rules.specs.declared.Event.{Event}
 use Rattle.rules.specs.Step.{step_of, runs}
-use Rattle.run.specs.Runs.{events_of, event_at}
+use Rattle.run.specs.Runs.{events_of}
 
--- less than four bytes are no event
 pub events-none : (xs : List ℕ) → length xs < 4 → events_of xs ≡ []
 unfolding events_of
 events-none [] h = refl
@@ -21,34 +18,28 @@ events-none (a ∷ b ∷ []) h = refl
 events-none (a ∷ b ∷ c ∷ []) h = refl
 events-none (a ∷ b ∷ c ∷ d ∷ xs) h = absurd (omega (arith, h))
 
--- the event at a place is the first of those from there on
-pub events-more : (xs : List ℕ) (at : ℕ) → 4 ≤ length xs - at → events_of (drop at xs) ≡ event_at xs at ∷ events_of (drop (at + 4) xs)
+abbrev pub event_of : List ℕ → Event
+event_of xs = record { kind = slice_index_or xs 0 0; room = slice_index_or xs 1 0; other = slice_index_or xs 2 0; mode = slice_index_or xs 3 0 }
+
+pub events-more : (xs first rest : List ℕ) → first ≡ take 4 xs → rest ≡ drop 4 xs → length rest + 4 ≡ length xs → events_of xs ≡ event_of first ∷ events_of rest
 unfolding events_of
-events-more xs at h =
-    rw (
-      drop-cons xs at 0 (omega arith),
-      drop-cons xs (suc at) 0 (omega arith),
-      drop-cons xs (suc (suc at)) 0 (omega arith),
-      drop-cons xs (suc (suc (suc at))) 0 (omega arith),
-    ) (simp unary_clauses)
+events-more [] f r p q h = absurd (omega (arith, h))
+events-more (a ∷ []) f r p q h = absurd (omega (arith, h))
+events-more (a ∷ b ∷ []) f r p q h = absurd (omega (arith, h))
+events-more (a ∷ b ∷ c ∷ []) f r p q h = absurd (omega (arith, h))
+events-more (a ∷ b ∷ c ∷ d ∷ xs) f r p q h = rw (p, q) refl
 
--- u is the table after the events before a place
-pub record Before (t : Table) (xs : List ℕ) (u : Table) (at : ℕ) : Type 0 where
-  pub low : at ≤ length xs
-  pub on : runs u (events_of (drop at xs)) ≡ runs t (events_of xs)
+-- there are no more of them than bytes
+pub events-few : (xs : List ℕ) → length (events_of xs) ≤ length xs
+unfolding events_of
+events-few [] = omega arith
+events-few (a ∷ []) = omega arith
+events-few (a ∷ b ∷ []) = omega arith
+events-few (a ∷ b ∷ c ∷ []) = omega arith
+events-few (a ∷ b ∷ c ∷ d ∷ xs) = omega (arith, events-few xs)
 
-pub before-none : (t : Table) (xs : List ℕ) → Before t xs t 0
-before-none t xs = record { low = omega arith; on = refl }
-
-module _ (t : Table) (xs : List ℕ) (u : Table) (at : ℕ) (b : Before t xs u at) where
-  pub before_more : 4 ≤ length xs - at → (e : Event) → e ≡ event_at xs at → (a : Answer) → a ≡ step_of u e → Before t xs a.table (at + 4)
-  unfolding runs
-  before_more h e p a q =
-      record {
-        low = omega (arith, b.low);
-        on = ap (λ (a : Answer). runs a.table (events_of (drop (at + 4) xs))) (q ∙ ap (step_of u) p) ∙ ap (runs u) (sym (events-more xs at h)) ∙ b.on;
-      }
-
-  pub before-all : length xs - at < 4 → u ≡ runs t (events_of xs)
-  unfolding runs
-  before-all h = ap (runs u) (sym (events-none (drop at xs) (omega (arith, length-drop at xs)))) ∙ b.on
+-- a fold of steps is a run
+pub runs-fold : (t : Table) (es : List Event) (u : Table) → u ≡ fold (λ (t : Table) e. (step_of t e).table) t es → u ≡ runs t es
+unfolding runs
+runs-fold t [] u h = h
+runs-fold t (e ∷ es) u h = runs-fold (step_of t e).table es u h

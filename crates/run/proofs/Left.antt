@@ -56,8 +56,8 @@ module _ (t : Table) (b : Bool) (p : b ≡ well_formed t) where
     formed : well_formed t ≡ true
     formed = sym p ∙ not-false b h
 
-    pub left-sizes : Sizes t
-    left-sizes = sizes t formed
+    pub left_sizes : Sizes t
+    left_sizes = sizes t formed
 
     pub left-some : IsLeft t (bound t)
     unfolding left_of

@@ -2,12 +2,14 @@
 use mathlib.Core.Path.{◌≡◌, refl, sym, ◌∙◌, ap}
 use mathlib.Core.List.{List}
 use Prim.Native.Nat.{ℕ, ◌≤◌}
-use borrow.Author.Tests.{le-leb, eq-eqb, ne_eqb}
+use borrow.Author.Tests.{le-leb, ne_eqb}
+use Rattle.std.specs.Prelude.{Err}
 use Rattle.room.specs.Limits.{room_limit}
 use Rattle.table.specs.declared.Table.{Table}
-use Rattle.table.specs.declared.Answer.{Answer}
-use Rattle.table.specs.Numbers.{DONE}
-use Rattle.table.specs.Tables.{answer, fresh_table, fresh_of}
+use Rattle.table.specs.declared.refusal.Refusal.{Refusal}
+use Rattle.table.specs.Numbers.{DONE, number_of}
+use Rattle.table.specs.Tables.{Answer, answer, answer_in, blank_table, fresh_table, fresh_of}
+use Rattle.table.proofs.Known.{number-some}
 use Rattle.rules.specs.declared.Event.{Event}
 use Rattle.rules.specs.Step.{runs}
 use Rattle.safe.specs.Reached.{Reached}
@@ -32,19 +34,19 @@ run_holds n events some most =
       hands-back = hand-back-accepted n _ r;
     }
 
-module _ (n : ℕ) (events : List Event) (a : Answer) (e : a ≡ fresh_of n) where
-  pub run-refused : (a.«number» ≡ 0 → ⊥) → Ran n events a
+module _ (n : ℕ) (events : List Event) where
+  pub run-refused : (why : Refusal) → answer_in blank_table (Err why) ≡ fresh_of n → Ran n events (answer_in blank_table (Err why))
   unfolding ran_of continued
-  run-refused h =
+  run-refused why e =
       record {
-        is = rw (← e) (sym (simp (ne_eqb a.«number» 0 h)));
-        holds = λ some most. absurd (h (ap (λ (r : Answer). r.«number») (e ∙ fresh-is n some most)));
+        is = rw (← e) (sym (simp (ne_eqb (number_of why) DONE (number-some why))));
+        holds = λ some most. absurd (number-some why (ap (λ (a : Answer). a.«number») (e ∙ fresh-is n some most)));
       }
 
-  pub run-made : a.«number» ≡ 0 → (last : Table) → last ≡ runs a.table events → Ran n events (answer 0 last)
+  pub run-made : (t : Table) → answer DONE t ≡ fresh_of n → (last : Table) → last ≡ runs t events → Ran n events (answer DONE last)
   unfolding ran_of continued
-  run-made h last q =
+  run-made t e last q =
       record {
-        is = rw (← e, q) (sym (simp (eq-eqb a.«number» 0 h)));
-        holds = λ some most. rw (q, e, fresh-is n some most) (run_holds n events some most);
+        is = rw (← e, q) refl;
+        holds = λ some most. rw (q, ap (λ (a : Answer). a.table) (e ∙ fresh-is n some most)) (run_holds n events some most);
       }

@@ -1,22 +1,16 @@
 -- A drain of deliveries and hand-backs on any table: what is given back, and how many of them there can be.
-use Rattle.std.specs.Prelude.{ℕ, ◌≤◌, ◌≡◌, false, List, eqb, if◌then◌else◌}
+use Rattle.std.specs.Prelude.{ℕ, ◌≤◌, ◌≡◌, false, List, Option, Some, None, if◌then◌else◌}
 use Rattle.base.specs.Choice.{decided}
-use Rattle.base.specs.Sums.{one}
 use Rattle.table.specs.declared.Table.{Table}
-use Rattle.table.specs.Numbers.{DONE}
 use Rattle.table.specs.Formed.{well_formed}
 use Rattle.rules.specs.declared.Event.{Event}
 use Rattle.safe.specs.Reached.{Reached}
 use Rattle.drain.specs.Drains.{drained_by, is_made, drained, steps, bound, Drains}
 use Rattle.run.specs.declared.draining.Drained.{Drained}
 
--- an accepted event is one step, a refused one none
-unfoldable pub counted_of : ℕ → ℕ
-counted_of k = one (eqb k DONE)
-
--- the table after one event, and whether it was a step
-unfoldable pub after_of : Table → Event → Drained
-after_of t e = record { table = drained_by t e; steps = one (is_made t e) }
+-- the table after one event that is a step, and nothing where it is none
+unfoldable pub after_of : Table → Event → Option Table
+after_of t e = if is_made t e then Some (drained_by t e) else None
 
 -- What a drain gives back: the table after the deliveries and hand-backs among the events, and how many were accepted.
 pub record IsDrained (t : Table) (events : List Event) (r : Drained) : Type 0 where

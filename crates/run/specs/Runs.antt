@@ -1,24 +1,18 @@
 -- A run of events from a fresh table: what is given back, and what holds of the table.
-use Rattle.std.specs.Prelude.{ℕ, ◌+◌, ◌≤◌, ◌<◌, ◌≡◌, ◌≢◌, true, List, [], ◌∷◌, eqb, get_or, if◌then◌else◌}
+use Rattle.std.specs.Prelude.{ℕ, ◌≤◌, ◌<◌, ◌≡◌, ◌≢◌, true, Some, List, [], ◌∷◌, eqb, if◌then◌else◌}
 use Rattle.base.specs.Choice.{decided}
 use Rattle.room.specs.Limits.{room_limit}
 use Rattle.table.specs.declared.Table.{Table}
-use Rattle.table.specs.declared.Answer.{Answer}
 use Rattle.table.specs.Numbers.{DONE}
-use Rattle.table.specs.Tables.{room_at, answer, fresh_of}
+use Rattle.table.specs.Tables.{room_at, Answer, answer, fresh_of}
 use Rattle.table.specs.declared.Message.{Message}
-use Rattle.table.specs.declared.Found.TheVariants as found
-use Rattle.table.specs.Oldest.{oldest_of}
+use Rattle.table.specs.Oldest.{found_at, oldest_of}
 use Rattle.table.specs.Formed.{well_formed}
 use Rattle.rules.specs.declared.Event.{Event}
 use Rattle.rules.specs.Events.{HANDBACK, DELIVER}
 use Rattle.rules.specs.Step.{step_of, runs}
 use Rattle.bounds.specs.Bounds.{most_messages}
 use Rattle.safe.specs.Reached.{Reached, Demand3}
-
--- the bytes of an event: its kind, room, other and mode
-abbrev pub event_bytes : ℕ
-event_bytes = 4
 
 -- events in bytes, four for each: kind, room, other and mode; what is left at the end is no event
 unfoldable pub events_of : List ℕ → List Event
@@ -27,10 +21,6 @@ events_of (kind ∷ []) = []
 events_of (kind ∷ room ∷ []) = []
 events_of (kind ∷ room ∷ other ∷ []) = []
 events_of (kind ∷ room ∷ other ∷ mode ∷ rest) = record { kind = kind; room = room; other = other; mode = mode } ∷ events_of rest
-
--- the event at a place
-abbrev pub event_at : List ℕ → ℕ → Event
-event_at xs at = record { kind = get_or xs at 0; room = get_or xs (at + 1) 0; other = get_or xs (at + 2) 0; mode = get_or xs (at + 3) 0 }
 
 -- events made on a fresh table; on a refused one none is made
 unfoldable pub continued : Answer → List Event → Answer
@@ -48,7 +38,7 @@ pub record Holds (n : ℕ) (t : Table) : Type 0 where
   pub formed : well_formed t ≡ true
   pub few : t.count ≤ most_messages
   -- no 10 and no 11: a delivery on a wire with a message is accepted,
-  pub delivers : (e : Event) → e.kind ≡ DELIVER → (k : ℕ) (m : Message) → oldest_of t e.room e.other ≡ found.At k m → (step_of t e).«number» ≡ DONE
+  pub delivers : (e : Event) → e.kind ≡ DELIVER → (k : ℕ) (m : Message) → oldest_of t e.room e.other ≡ Some (found_at k m) → (step_of t e).«number» ≡ DONE
   -- and a hand-back by a room that holds and does not wait
   pub hands-back : (e : Event) → e.kind ≡ HANDBACK → e.room < n → (room_at t e.room).held ≢ 0 → (room_at t e.room).wanted ≡ 0
       → (step_of t e).«number» ≡ DONE

@@ -1,12 +1,11 @@
 // A drain: nobody asks or upgrades any more. Its contracts carry that the table comes to rest, how soon, and that everyone is served.
 ghost use Rattle.std.specs.Prelude.{◌≡◌};
 ghost use Rattle.run.specs.Runs.{events_of};
-ghost use Rattle.run.specs.Drains.{counted_of, after_of, IsDrained, IsLeft};
+ghost use Rattle.run.specs.Drains.{after_of, IsDrained, IsLeft};
 
-use crate::EVENT_BYTES;
-use crate::event::event_at;
-use rules::Event;
-use table::{Table, numbers};
+use crate::event::Events;
+use rules::{Event, Kind};
+use table::Table;
 
 // The steps that can be left for each two rooms, a room with itself among them.
 const FOR_TWO_ROOMS: usize = 3;
@@ -20,31 +19,13 @@ pub struct Drained {
     pub steps: usize,
 }
 
-// The steps that an answer with this number is.
-fn counted(number: u8) -> usize
-    ensures { result ≡ counted_of number }
-{
-    match number {
-        numbers::DONE => 1,
-        numbers::TABLE..=255 => 0,
-    }
-}
-
-// One event: made if it is a delivery or a hand-back, else passed over.
-fn after(t: Table, e: Event) -> Drained
+// The table after a delivery or a hand-back that is accepted; nothing where it is refused, or an event of another kind.
+fn after(t: Table, e: Event) -> Option<Table>
     ensures { result ≡ after_of t e }
 {
-    let kind = e.kind;
-    match kind {
-        rules::HANDBACK..=rules::DELIVER => {
-            let a = step::step(t, e);
-            let after = a.table;
-            Drained {
-                table: after,
-                steps: counted(a.number),
-            }
-        }
-        _ => Drained { table: t, steps: 0 },
+    match Kind::try_from(e.kind).ok()? {
+        Kind::HandBack | Kind::Deliver => step::step(t, e).ok(),
+        Kind::Ask | Kind::Upgrade => None,
     }
 }
 
@@ -53,23 +34,20 @@ fn after(t: Table, e: Event) -> Drained
 pub fn drain(t: Table, events: &[u8]) -> Drained
     ensures { IsDrained t (events_of events.now) result }
 {
-    let mut u = t;
-    let mut steps: usize = 0;
-    let mut at: usize = 0;
-    while events.len() - at >= EVENT_BYTES {
-        let d = after(u, event_at(events, at));
-        u = d.table;
-        steps += d.steps;
-        at += EVENT_BYTES;
+    let mut table = t;
+    let mut steps = 0;
+    for e in Events(events) {
+        if let Some(next) = after(table, e) {
+            table = next;
+            steps += 1;
+        }
     }
-    Drained {
-        table: u,
-        steps: steps,
-    }
+    Drained { table, steps }
 }
 
 // 3n² + 8n + m with m messages on the wires: from a table that events led to from a fresh one no more deliveries and hand-backs are
 // accepted. 0 where the table is not well formed: then none is.
+#[tactic(auto, using(crate::proofs::Left::left_sizes))]
 pub fn steps_left(t: Table) -> usize
     ensures { IsLeft t result }
 {

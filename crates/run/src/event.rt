@@ -1,19 +1,30 @@
 // Events in bytes, four for each: kind, room, other and mode.
-ghost use Rattle.std.specs.Prelude.{◌≡◌, ◌+◌, ◌≤◌, length};
-ghost use Rattle.run.specs.Runs.{event_bytes, event_at};
+ghost use Rattle.std.specs.Iterator.{YieldsFirst, item_count};
+ghost use Rattle.run.specs.Runs.{events_of};
 
+use crate::EVENT_BYTES;
 use rules::Event;
 
-// The event at a place.
-// Only for loops over the events, which are proved: all its bytes are there.
-pub fn event_at(events: &[u8], at: usize) -> Event
-    requires { at + event_bytes ≤ length events.now }
-    ensures { result ≡ event_at events.now at }
-{
-    Event {
-        kind: events[at],
-        room: events[at + 1],
-        other: events[at + 2],
-        mode: events[at + 3],
+// The events that bytes are, one after another. Bytes that are no whole event are left.
+#[derive(Drop)]
+pub struct Events<'a>(pub &'a [u8]);
+
+impl<'a> Iterator for Events<'a> {
+    type Item = Event;
+
+    ghost next_gives = { YieldsFirst (λ s. events_of s.0.now) };
+
+    ghost remaining = { item_count (λ s. events_of s.0.now) };
+
+    fn next(&mut self) -> Option<Event> {
+        let (event, rest) = self.0.split_first_chunk::<EVENT_BYTES>()?;
+        let [kind, room, other, mode] = *event;
+        self.0 = rest;
+        Some(Event {
+            kind,
+            room,
+            other,
+            mode,
+        })
     }
 }

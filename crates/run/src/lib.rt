@@ -2,14 +2,15 @@
 #![tactic(auto)]
 
 ghost use Rattle.std.specs.Prelude.{◌≡◌};
+ghost use Rattle.table.specs.Tables.{blank_table, answer_in};
 ghost use Rattle.rules.specs.Step.{runs};
 ghost use Rattle.run.specs.Runs.{events_of, Ran};
 
 pub mod draining; // draining.rt: deliveries and hand-backs alone
-mod event; // event.rt: an event in bytes
+mod event; // event.rt: events in bytes, one after another
 
-use event::event_at;
-use table::{Answer, Table, numbers};
+use event::Events;
+use table::{Refusal, Table};
 
 // The bytes of an event: its kind, room, other and mode.
 pub const EVENT_BYTES: usize = 4;
@@ -18,30 +19,13 @@ pub const EVENT_BYTES: usize = 4;
 fn made(t: Table, events: &[u8]) -> Table
     ensures { result ≡ runs t (events_of events.now) }
 {
-    let mut u = t;
-    let mut at: usize = 0;
-    while events.len() - at >= EVENT_BYTES {
-        let a = step::step(u, event_at(events, at));
-        u = a.table;
-        at += EVENT_BYTES;
-    }
-    u
+    Events(events).fold(t, |u, e| step::step(u, e).unwrap_or(u))
 }
 
-// A fresh table of n rooms, and the events made on it; where n is refused no event is made. Bytes that are no whole event are left.
-pub fn run(n: u8, events: &[u8]) -> Answer
-    ensures { Ran n (events_of events.now) result }
+// A fresh table of n rooms after the events; where n is refused no event is made. Bytes that are no whole event are left.
+pub fn run(n: u8, events: &[u8]) -> Result<Table, Refusal>
+    ensures { Ran n (events_of events.now) (answer_in blank_table result) }
 {
-    let fresh = table::fresh(n);
-    let number = fresh.number;
-    match number {
-        numbers::DONE => {}
-        numbers::TABLE..=255 => return fresh,
-    }
-    let start = fresh.table;
-    let last = made(start, events);
-    Answer {
-        number: numbers::DONE,
-        table: last,
-    }
+    let fresh = table::fresh(n)?;
+    Ok(made(fresh, events))
 }

@@ -3,8 +3,9 @@ use Rattle.std.specs.Prelude.{◌≡◌, refl, ◌≢◌, true, false, ℕ, ◌�
 use Rattle.std.proofs.Common.{subst, arith}
 use borrow.Author.Tests.{lt-leb, ne_eqb}
 use Rattle.room.specs.Limits.{room_limit}
+use Rattle.std.specs.Prelude.{Some}
+use Rattle.table.specs.Oldest.{found_at}
 use Rattle.table.specs.declared.Table.{Table}
-use Rattle.table.specs.declared.Found.TheVariants as found
 use Rattle.table.specs.declared.Message.{Message}
 use Rattle.table.specs.Numbers.{DONE}
 use Rattle.table.specs.Tables.{no_wire, room_at, messages_of, queue_of, fresh_table}
@@ -63,7 +64,7 @@ module _ (n : ℕ) (t : Table) (r : Reached n t) where
   reached-few = omega (arith, messages-count n t safe, messages-most t.n limit (room_at t) (queue_of t) (messages_of t) 0 safe.invariant.clauses.few)
 
   -- a delivery on a wire with a message is accepted
-  pub delivery-accepted : (e : Event) → e.kind ≡ DELIVER → (k : ℕ) (m : Message) → oldest_of t e.room e.other ≡ found.At k m
+  pub delivery-accepted : (e : Event) → e.kind ≡ DELIVER → (k : ℕ) (m : Message) → oldest_of t e.room e.other ≡ Some (found_at k m)
       → (step_of t e).«number» ≡ DONE
   unfolding refusal refusal_as first is_found
   delivery-accepted e kind k m h = (step-goes n t safe e (rw (reached-formed, kind, h, inside.0, inside.1) refl)).0

@@ -5,11 +5,12 @@ use Rattle.std.proofs.Common.{append-nil, arith, length-take-le}
 use borrow.Author.Tests.{le-ltb, eqb-true, eqb-false}
 use Rattle.base.specs.Choice.{by-test, split}
 use Rattle.base.specs.Lists.{remove}
+use Rattle.std.specs.Prelude.{Option, Some, None}
+use Rattle.table.specs.Oldest.{found_at}
 use Rattle.table.specs.declared.Table.{Table}
 use Rattle.table.specs.declared.Wire.{Wire}
-use Rattle.table.specs.declared.Answer.{Answer}
+use Rattle.table.specs.Tables.{Answer}
 use Rattle.table.specs.declared.Found.{Found}
-use Rattle.table.specs.declared.Found.TheVariants as found
 use Rattle.table.specs.declared.Message.{Message}
 use Rattle.table.specs.Limits.{wire_limit}
 use Rattle.table.specs.Numbers.{DONE}
@@ -97,7 +98,7 @@ module _ (n : ℕ) (t : Table) (s : Safe n t) where
       }
 
   -- "DELIVER(a, b) takes the oldest message from a to b"
-  pub delivered-safe : (a b k : ℕ) (m : Message) → oldest_of t a b ≡ found.At k m → Goes n (delivered t a b (found.At k m))
+  pub delivered-safe : (a b k : ℕ) (m : Message) → oldest_of t a b ≡ Some (found_at k m) → Goes n (delivered t a b (Some (found_at k m)))
   unfolding delivered
   delivered-safe a b k m h =
       let taken = take-oldest t shaped facts unowned a b k m h in
@@ -106,9 +107,9 @@ module _ (n : ℕ) (t : Table) (s : Safe n t) where
       (record { low = oldest-low t a b k m h; there = oldest-there t a b k m h; first = oldest-first t a b k m h })
       taken.right taken.at)
 
-  found-safe : (a b : ℕ) (r : Found) → oldest_of t a b ≡ r → oldest_of t a b ≢ found.Nothing → Goes n (delivered t a b r)
-  found-safe a b found.Nothing h z = absurd (z h)
-  found-safe a b (found.At k m) h z = delivered-safe a b k m h
+  found-safe : (a b : ℕ) (r : Option Found) → oldest_of t a b ≡ r → oldest_of t a b ≢ None → Goes n (delivered t a b r)
+  found-safe a b None h z = absurd (z h)
+  found-safe a b (Some found) h z = delivered-safe a b found.place found.message h
 
   pub messages-count : length (messages_of t) ≡ t.count
   messages-count = length-take-le t.count t.wires (omega (arith, shaped.wires, facts.count))

@@ -7,11 +7,12 @@ use Prim.Native.Nat.{ℕ}
 use lib.Dec.{ltb, leb, eqb}
 use lib.ListN.{length}
 use borrow.Author.Tests.{leb-true, eqb-true, eqb-false}
+use Rattle.std.specs.Prelude.{Option, None, Some}
 use Rattle.base.specs.Choice.{by-test, split}
 use Rattle.base.specs.Tests.{and_left, and_right}
 use Rattle.room.specs.Limits.{room_limit}
 use Rattle.table.specs.declared.Table.{Table}
-use Rattle.table.specs.declared.Answer.{Answer}
+use Rattle.table.specs.Tables.{Answer}
 use Rattle.table.specs.Numbers.{DONE, ROOM, TABLE, EVENT}
 use Rattle.table.specs.Tables.{answer, fresh_table, blank_table, fresh_of}
 use Rattle.table.specs.Formed.{sizes_fit, well_formed}
@@ -65,11 +66,11 @@ module _ (t : Table) (k : Known t) where
   unfolding unread
   unread-known = by-test Gives (eqb t.n 0) (answer TABLE t) (answer EVENT t) (λ e. k) (λ e. k)
 
-  obeyed-known : (c : Command) → Gives (obeyed t c)
+  obeyed-known : (c : Option Command) → Gives (obeyed t c)
   unfolding obeyed_by
-  obeyed-known command.Other = unread-known
-  obeyed-known (command.Fresh n) = begun-known (fresh_of n) (fresh-known n (fresh_of n) refl)
-  obeyed-known (command.Make e) = step-known e
+  obeyed-known None = unread-known
+  obeyed-known (Some (command.Fresh n)) = begun-known (fresh_of n) (fresh-known n (fresh_of n) refl)
+  obeyed-known (Some (command.Make e)) = step-known e
 
   -- one turn leads to such a table again
   pub turned-known : (line out : List ℕ) (r : Turned) → r ≡ turned_of t (answer_to t line) out → Known r.table

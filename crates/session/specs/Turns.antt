@@ -1,8 +1,8 @@
 -- One line, and what comes of it.
-use Rattle.std.specs.Prelude.{ℕ, ◌≡◌, Bool, List, length, ltb, eqb, if◌then◌else◌}
+use Rattle.std.specs.Prelude.{ℕ, ◌≡◌, Bool, List, Option, None, Some, length, ltb, eqb, if◌then◌else◌}
 use Rattle.base.specs.Choice.{decided}
 use Rattle.table.specs.declared.Table.{Table}
-use Rattle.table.specs.declared.Answer.{Answer}
+use Rattle.table.specs.Tables.{Answer}
 use Rattle.table.specs.Numbers.{DONE, TABLE, EVENT}
 use Rattle.table.specs.Tables.{answer, fresh_of}
 use Rattle.rules.specs.declared.Event.{Event}
@@ -23,12 +23,12 @@ unfoldable pub unread : Table → Answer
 unread t = if eqb t.n 0 then answer TABLE t else answer EVENT t
 
 -- what a line asks for, with the step that an event makes
-unfoldable pub obeyed_by : (Event → Answer) → Table → Command → Answer
-obeyed_by step t command.Other = unread t
-obeyed_by step t (command.Fresh n) = begun t (fresh_of n)
-obeyed_by step t (command.Make e) = step e
+unfoldable pub obeyed_by : (Event → Answer) → Table → Option Command → Answer
+obeyed_by step t None = unread t
+obeyed_by step t (Some (command.Fresh n)) = begun t (fresh_of n)
+obeyed_by step t (Some (command.Make e)) = step e
 
-abbrev pub obeyed : Table → Command → Answer
+abbrev pub obeyed : Table → Option Command → Answer
 obeyed t c = obeyed_by (step_of t) t c
 
 -- the number and the table that a line gives
@@ -36,7 +36,7 @@ unfoldable pub answer_to : Table → List ℕ → Answer
 answer_to t line = obeyed t (command_of line)
 
 -- the same where it is told whether the table is well formed
-abbrev pub obeyed_as : Bool → Table → Command → Answer
+abbrev pub obeyed_as : Bool → Table → Option Command → Answer
 obeyed_as formed t c = obeyed_by (step_as formed t) t c
 
 unfoldable pub answer_as : Bool → Table → List ℕ → Answer

@@ -3,68 +3,51 @@
 
 ghost use Rattle.std.specs.Prelude.{◌≡◌, not, eqb};
 ghost use Rattle.table.specs.Formed.{well_formed};
-ghost use Rattle.table.specs.Tables.{fresh_of};
+ghost use Rattle.table.specs.Numbers.{number_of};
+ghost use Rattle.table.specs.Tables.{answer, answer_in};
 ghost use Rattle.session.specs.Known.{Known};
-ghost use Rattle.session.specs.Turns.{begun, unread, obeyed, answer_to, obeyed_as, answer_as, Leaves};
+ghost use Rattle.session.specs.Turns.{unread, obeyed, answer_to, obeyed_as, answer_as, Leaves};
 
 use reading::{Command, read};
-use table::{Answer, Table, numbers};
+use table::{DONE, Refusal, Table};
 use writing::{LINE, write_line};
 
-// The table after a line, and the length of the answer.
-#[derive(Clone, Copy)]
+// The table after a line, and the length of the answer, whose bytes lie in the caller's out. The length is 0 where nothing was done: that
+// is what the contract of turn says.
+#[derive(Clone, Copy, PartialEq, Eq)]
 pub struct Turned {
     pub table: Table,
     pub length: usize,
 }
 
-// A fresh table of n rooms; the one that there is where n is refused.
-fn begin(t: Table, n: u8) -> Answer
-    ensures { result ≡ begun t (fresh_of n) }
-{
-    let fresh = table::fresh(n);
-    let number = fresh.number;
-    match number {
-        numbers::DONE => {}
-        numbers::TABLE..=255 => {
-            return Answer {
-                number: number,
-                table: t,
-            };
-        }
-    }
-    fresh
-}
-
-// A line of another form.
-fn other(t: Table) -> Answer
-    ensures { result ≡ unread t }
+// Why a line of another form is refused.
+#[tactic(auto, unfolding(crate::specs::Turns::unread))]
+fn other(t: Table) -> Refusal
+    ensures { answer (number_of result) t ≡ unread t }
 {
     if t.n == 0 {
-        return Answer {
-            number: numbers::TABLE,
-            table: t,
-        };
-    }
-    Answer {
-        number: numbers::EVENT,
-        table: t,
+        Refusal::Table
+    } else {
+        Refusal::Event
     }
 }
 
-// What a line asks for is done, or refused; formed tells whether t is well formed.
-fn obey(t: Table, c: Command, formed: bool) -> Answer
-    ensures as_told { result ≡ obeyed_as formed t c }
-    ensures told_rightly { formed ≡ well_formed t → result ≡ obeyed t c }
+// What a line asks for is done, or refused; formed tells whether t is well formed. A refusal leaves the table as it is.
+// formed stays beside t, and is no fact of a type: what turn_known tells of a table that is no session's own need not be so.
+#[tactic(auto, using(crate::proofs::Fresh::fresh_begun), unfolding(crate::specs::Turns::obeyed_by))]
+fn obey(t: Table, c: Option<Command>, formed: bool) -> Result<Table, Refusal>
+    ensures as_told { answer_in t result ≡ obeyed_as formed t c }
+    ensures told_rightly { formed ≡ well_formed t → answer_in t result ≡ obeyed t c }
 {
     match c {
-        Command::Other => other(t),
-        Command::Fresh { n } => begin(t, n),
-        Command::Make { event } => step::step_untested(t, event, formed),
+        None => Err(other(t)),
+        Some(Command::Fresh { n }) => table::fresh(n),
+        Some(Command::Make { event }) => step::step_untested(t, event, formed),
     }
 }
 
 // A turn; formed tells whether t is well formed.
+#[tactic(auto, unfolding(crate::specs::Turns::turned_of, crate::specs::Turns::answer_as, crate::specs::Turns::answer_to, writing::specs::Written::written_of))]
 fn answer(t: Table, formed: bool, line: &[u8], out: &mut [u8]) -> Turned
     ensures as_told { Leaves t (answer_as formed t line.now) out.old result out.new }
     ensures told_rightly { formed ≡ well_formed t → Leaves t (answer_to t line.now) out.old result out.new }
@@ -75,12 +58,14 @@ fn answer(t: Table, formed: bool, line: &[u8], out: &mut [u8]) -> Turned
             length: 0,
         };
     }
-    let a = obey(t, read(line), formed);
-    let after = a.table;
-    let length = write_line(a.number, after, out);
+    let (number, after) = match obey(t, read(line), formed) {
+        Ok(next) => (DONE, next),
+        Err(refusal) => (u8::from(refusal), t),
+    };
+    let length = write_line(number, after, out);
     Turned {
         table: after,
-        length: length,
+        length,
     }
 }
 

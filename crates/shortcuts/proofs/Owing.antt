@@ -13,7 +13,7 @@ use Rattle.room.specs.Owned.{larger, strongest, owned}
 use Rattle.room.specs.Rules.{next_link, is_worn, lent_to, lent, settled, leaving, granted}
 use Rattle.table.specs.declared.Table.{Table}
 use Rattle.table.specs.declared.Wire.{Wire}
-use Rattle.table.specs.declared.Answer.{Answer}
+use Rattle.table.specs.Tables.{Answer}
 use Rattle.table.specs.declared.Message.TheVariants as msg
 use Rattle.table.specs.Tables.{room_at, messages_of}
 use Rattle.table.specs.Oldest.{oldest_in, oldest_of}

@@ -44,4 +44,4 @@ shaped t g =
 
 -- the outbox of what a plan has done
 pub plan-out-long : (p : Plan) {vs : List Val} → Is plans.the_row p vs → length p.done.out ≡ out_limit
-plan-out-long p g = g.1.1.1.1.1.1.0.1.1.1.1.1.0.1.0.1
+plan-out-long p g = g.1.1.1.1.1.0.1.1.1.1.1.0.1.0.1

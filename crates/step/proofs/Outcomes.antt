@@ -10,14 +10,14 @@ use lib.Seq.{length-take-le, take_all}
 use borrow.Author.Tests.{lt-ltb, le-ltb, ne_eqb}
 use Rattle.base.specs.Lists.{remove, remove-split}
 use Rattle.table.specs.declared.Table.{Table}
-use Rattle.table.specs.declared.Answer.{Answer}
+use Rattle.table.specs.Tables.{Answer}
 use Rattle.table.specs.Limits.{wire_limit}
 use Rattle.table.specs.Tables.{messages_of, answer}
 use Rattle.rules.specs.Work.{Work}
 use Rattle.rules.specs.Step.{after, outcome}
 use Rattle.act.specs.declared.Done.{Done}
 use Rattle.act.specs.Done.{done_of}
-use Rattle.plan.specs.declared.Plan.{Plan}
+use Rattle.plan.specs.Plans.{Planned}
 use Rattle.step.specs.Writes.{without, Takes, ending_of}
 use Rattle.step.proofs.Splice.{length-spliced}
 
@@ -63,7 +63,7 @@ module _ (t : Table) (me place gap : ℕ) (k : Takes t me place gap) (long : len
         s ∙ sym (simp (worn ∙ free, le-ltb _ _ under))
 
 -- the branches of the number that is given back
-module _ (count : ℕ) (p : Plan) where
+module _ (count : ℕ) (p : Planned) where
   pub ending-own : (p.«number» ≡ 0 → ⊥) → p.«number» ≡ ending_of count p
   unfolding ending_of
   ending-own h = simp (ne_eqb _ _ h)

@@ -8,10 +8,11 @@ use lib.ListN.{length}
 use borrow.Author.Tests.{eq-eqb}
 use Rattle.base.specs.Sums.{one}
 use Rattle.base.specs.Lists.{count, Mem, mem-at, mem-total}
+use Rattle.std.specs.Prelude.{Some}
+use Rattle.table.specs.Oldest.{found_at}
 use Rattle.table.specs.declared.Table.{Table}
 use Rattle.table.specs.declared.Message.{Message}
 use Rattle.table.specs.declared.Message.TheVariants as msg
-use Rattle.table.specs.declared.Found.TheVariants as found
 use Rattle.table.specs.Limits.{queue_limit}
 use Rattle.table.specs.Tables.{no_wire, room_at, queue_of, messages_of}
 use Rattle.table.specs.Oldest.{oldest_of}
@@ -52,7 +53,7 @@ module _ (t : Table) (s : Shaped t) (h : well_formed t ≡ true) where
       )
 
   -- the origin of a REQUEST is named by it, and by nothing else
-  pub request-place : (a b k o m : ℕ) (idle : Bool) → oldest_of t a b ≡ found.At k (msg.Request o m idle) → length (queue_of t) < queue_limit
+  pub request-place : (a b k o m : ℕ) (idle : Bool) → oldest_of t a b ≡ Some (found_at k (msg.Request o m idle)) → length (queue_of t) < queue_limit
   unfolding is_named_in in-queue on-wires
   request-place a b k o m idle e =
       let low = oldest-low t a b k (msg.Request o m idle) e in
@@ -67,7 +68,7 @@ module _ (t : Table) (s : Shaped t) (h : well_formed t ≡ true) where
       )
 
   -- so whatever message arrives, the queue after it has its places
-  pub receive-place : (a b k : ℕ) (x : Message) → oldest_of t a b ≡ found.At k x → length (queue_of t) + one (is_request x) ≤ queue_limit
+  pub receive-place : (a b k : ℕ) (x : Message) → oldest_of t a b ≡ Some (found_at k x) → length (queue_of t) + one (is_request x) ≤ queue_limit
   unfolding is_request
   receive-place a b k msg.Nothing e = omega (arith, queue-fits)
   receive-place a b k (msg.Request o m idle) e = omega (arith, request-place a b k o m idle e)

@@ -10,10 +10,10 @@ use lib.Seq.{length-take-le}
 use borrow.Author.Tests.{eqb-true, eqb-false}
 use Rattle.base.specs.Choice.{split}
 use Rattle.base.specs.Arrays.{padded, padded-fits}
+use Rattle.std.specs.Prelude.{Option, Some, None}
 use Rattle.table.specs.declared.Table.{Table}
 use Rattle.table.specs.declared.Wire.{Wire}
 use Rattle.table.specs.declared.Found.{Found}
-use Rattle.table.specs.declared.Found.TheVariants as found
 use Rattle.table.specs.Limits.{queue_limit, wire_limit}
 use Rattle.table.specs.Tables.{no_wire, messages_of, answer}
 use Rattle.table.specs.Oldest.{oldest_of}
@@ -30,15 +30,14 @@ use Rattle.rules.specs.Refusals.{refusal}
 use Rattle.rules.specs.Step.{outcome, delivered, made, step_of}
 use Rattle.act.specs.Desk.{out_limit}
 use Rattle.act.specs.Done.{done_of}
-use Rattle.plan.specs.declared.Plan.{Plan}
-use Rattle.plan.specs.Plans.{made_plan, refused_plan, taking, doing, plan_as}
+use Rattle.plan.specs.Plans.{Planned, made_plan, refused_plan, taking, doing, plan_as}
 use Rattle.step.specs.Writes.{without, Takes}
 use Rattle.step.proofs.Outcomes.{without-none, without-one}
 use Rattle.step.proofs.Queues.{Grows, ask-grows, upgrade-grows, hand-back-grows, receive-grows}
 use Rattle.step.proofs.Places.{queue-fits, asks-place, receive-place}
 
 -- a plan to make the step: the work that was done, and that its outcome is the step
-pub record Made (t : Table) (e : Event) (p : Plan) : Type 0 where
+pub record Made (t : Table) (e : Event) (p : Planned) : Type 0 where
   pub work : Work
   pub me : work.me ≡ p.me
   pub few : length work.queue ≤ queue_limit
@@ -49,12 +48,12 @@ pub record Made (t : Table) (e : Event) (p : Plan) : Type 0 where
   pub step : outcome t (without t p.place p.gap) work ≡ step_of t e
 
 -- a plan for the step on t by e
-pub record Plans (t : Table) (e : Event) (p : Plan) : Type 0 where
+pub record Plans (t : Table) (e : Event) (p : Planned) : Type 0 where
   pub refused : (p.«number» ≡ 0 → ⊥) → answer p.«number» t ≡ step_of t e
   pub made : p.«number» ≡ 0 → Made t e p
 
 -- the outbox of a plan is as long as its type says
-abbrev Long : Plan → Type 0
+abbrev Long : Planned → Type 0
 Long p = length p.done.out ≡ out_limit
 
 module _ (t : Table) (s : Shaped t) (e : Event) where
@@ -104,18 +103,18 @@ module _ (t : Table) (s : Shaped t) (e : Event) where
         w most g room long (ap (λ (l : List Wire). outcome t l w) (without-none t s.wires facts.count) ∙ q)
 
     -- a delivery
-    taking-plans : is_deliver e ≡ true → (r : Found) → oldest_of t e.room e.other ≡ r → Long (taking t e.room e.other r)
+    taking-plans : is_deliver e ≡ true → (r : Option Found) → oldest_of t e.room e.other ≡ r → Long (taking t e.room e.other r)
         → delivered t e.room e.other r ≡ made t e → Plans t e (taking t e.room e.other r)
     unfolding taking delivered
-    taking-plans d found.Nothing o long q = absurd (acts.found d o)
-    taking-plans d (found.At k m) o long q =
-        let place = oldest-low t e.room e.other k m o in
+    taking-plans d None o long q = absurd (acts.found d o)
+    taking-plans d (Some found) o long q =
+        let place = oldest-low t e.room e.other found.place found.message o in
         let all = length-take-le t.count t.wires (omega (arith, facts.count, s.wires)) in
-        let w = receive (work_at t e.other) e.room m in
-        plans e.other k 1
+        let w = receive (work_at t e.other) e.room found.message in
+        plans e.other found.place 1
         (record { one = omega arith; low = omega arith; count = facts.count; acts = omega (arith, acts.near d, facts.low) })
-        w _ (receive-grows (work_at t e.other) e.room m) (receive-place t s acts.formed e.room e.other k m o) long
-        (ap (λ (l : List Wire). outcome t l w) (without-one t s.wires facts.count k) ∙ q)
+        w _ (receive-grows (work_at t e.other) e.room found.message) (receive-place t s acts.formed e.room e.other found.place found.message o) long
+        (ap (λ (l : List Wire). outcome t l w) (without-one t s.wires facts.count found.place) ∙ q)
 
     doing-plans : Long (doing t e) → Plans t e (doing t e)
     unfolding doing made
@@ -134,7 +133,7 @@ module _ (t : Table) (s : Shaped t) (e : Event) where
         other a = rw (eqb-true e.kind 0 a)
 
   -- the plan, where it is told rightly whether the table is well formed, is one for the step
-  pub plans-of : (p : Plan) → p ≡ plan_as (well_formed t) t e → length p.done.out ≡ out_limit → Plans t e p
+  pub plans-of : (p : Planned) → p ≡ plan_as (well_formed t) t e → length p.done.out ≡ out_limit → Plans t e p
   unfolding plan_as refusal
   plans-of p q long =
       split (eqb (refusal t e) 0)

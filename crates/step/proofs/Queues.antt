@@ -11,7 +11,8 @@ use Rattle.base.specs.Choice.{by-test}
 use Rattle.base.specs.Sums.{one}
 use Rattle.modes.specs.Codes.{W}
 use Rattle.modes.specs.Modes.{agrees, can_lend}
-use Rattle.room.specs.declared.Send.{Send}
+use Rattle.std.specs.Prelude.{Option}
+use Rattle.room.specs.declared.Reduce.{Reduce}
 use Rattle.room.specs.Owned.{owned, has_no_entries}
 use Rattle.room.specs.Rules.{settled, granted, tokened, reduced}
 use Rattle.table.specs.declared.Queued.{Queued}
@@ -40,7 +41,7 @@ after k w v x p g = record { me = g.me ∙ p; queue = g.queue }
 more : (j k : ℕ) (w v : Work) → j ≤ k → Grows j w v → Grows k w v
 more j k w v h g = record { me = g.me; queue = omega (arith, g.queue) }
 
-sends : (w : Work) (s : Send) → ((send_out w s).me ≡ w.me) × ((send_out w s).queue ≡ w.queue)
+sends : (w : Work) (s : Option Reduce) → ((send_out w s).me ≡ w.me) × ((send_out w s).queue ≡ w.queue)
 sends w s = (ap (λ (v : Work). v.me) (sent-out w s), ap (λ (v : Work). v.queue) (sent-out w s))
 
 settle-grows : (w : Work) → Grows (here w) w (settle w)

@@ -11,9 +11,9 @@ use Rattle.base.specs.Choice.{split, by-test}
 use Rattle.base.specs.Arrays.{padded-fits}
 use Rattle.base.specs.Tests.{and_left, and_right}
 use Rattle.room.specs.Limits.{room_limit}
+use Rattle.std.specs.Prelude.{Option, Some, None}
 use Rattle.table.specs.declared.Table.{Table}
 use Rattle.table.specs.declared.Found.{Found}
-use Rattle.table.specs.declared.Found.TheVariants as found
 use Rattle.table.specs.Limits.{wire_limit}
 use Rattle.table.specs.Tables.{no_wire}
 use Rattle.table.specs.Oldest.{oldest_of}
@@ -29,22 +29,21 @@ use Rattle.rules.specs.Rules.{ask, upgrade, hand_back, receive}
 use Rattle.rules.specs.Refusals.{refusal_as}
 use Rattle.act.specs.Desk.{out_limit}
 use Rattle.act.specs.Done.{done_of}
-use Rattle.plan.specs.declared.Plan.{Plan}
-use Rattle.plan.specs.Plans.{made_plan, refused_plan, taking, doing, placed, plan_as}
+use Rattle.plan.specs.Plans.{Planned, made_plan, refused_plan, taking, doing, placed, plan_as}
 use Rattle.step.specs.Writes.{Takes}
 
 -- what a plan sends fits the outbox that its work was laid into
-abbrev Sends : Plan → Type 0
+abbrev Sends : Planned → Type 0
 Sends p = length p.done.out ≡ out_limit → p.done.sent ≤ out_limit
 
 done-sends : (me place gap : ℕ) (w : Work) → Sends (made_plan me place gap (done_of w))
 done-sends me place gap w long = padded-fits out_limit no_wire w.sent long
 
 module _ (t : Table) where
-  taking-sends : (a b : ℕ) (r : Found) → Sends (taking t a b r)
+  taking-sends : (a b : ℕ) (r : Option Found) → Sends (taking t a b r)
   unfolding taking
-  taking-sends a b found.Nothing long = omega arith
-  taking-sends a b (found.At k m) long = done-sends b k 1 (receive (work_at t b) a m) long
+  taking-sends a b None long = omega arith
+  taking-sends a b (Some found) long = done-sends b found.place 1 (receive (work_at t b) a found.message) long
 
   doing-sends : (e : Event) → Sends (doing t e)
   unfolding doing
@@ -54,7 +53,7 @@ module _ (t : Table) where
       (λ u. by-test Sends (is_hand_back e) _ _ (λ b. done-sends e.room t.count 0 (hand_back (work_at t e.room)))
       (λ b. taking-sends e.room e.other (oldest_of t e.room e.other))))
 
-  pub plan-sends : (e : Event) (told : Bool) (p : Plan) → p ≡ plan_as told t e → Sends p
+  pub plan-sends : (e : Event) (told : Bool) (p : Planned) → p ≡ plan_as told t e → Sends p
   unfolding plan_as
   plan-sends e told p q = subst⁻¹ Sends q (by-test Sends (eqb (refusal_as told t e) 0) _ _ (λ b. doing-sends e) (λ b long. omega arith))
 
@@ -85,12 +84,12 @@ module _ (t : Table) (s : Shaped t) where
       own : Takes t e.room t.count 0
       own = record { one = omega arith; low = omega arith; count = messages; acts = omega (arith, acts.low, rooms) }
 
-      delivery : is_deliver e ≡ true → (r : Found) → oldest_of t e.room e.other ≡ r
+      delivery : is_deliver e ≡ true → (r : Option Found) → oldest_of t e.room e.other ≡ r
           → Takes t (taking t e.room e.other r).me (taking t e.room e.other r).place (taking t e.room e.other r).gap
       unfolding taking
-      delivery d found.Nothing o = absurd (acts.found d o)
-      delivery d (found.At k m) o =
-          let place = oldest-low t e.room e.other k m o in
+      delivery d None o = absurd (acts.found d o)
+      delivery d (Some found) o =
+          let place = oldest-low t e.room e.other found.place found.message o in
           let all = length-take-le t.count t.wires (omega (arith, messages, s.wires)) in
           record { one = omega arith; low = omega arith; count = messages; acts = omega (arith, acts.near d, rooms) }
 
@@ -100,9 +99,9 @@ module _ (t : Table) (s : Shaped t) where
           split (is_ask e) (λ a. rw a own) (λ a. split (is_upgrade e) (λ u. rw (a, u) own) (λ u. split (is_hand_back e) (λ b. rw (a, u, b) own)
           (λ b. rw (a, u, b) (delivery (acts.kinds a u b) (oldest_of t e.room e.other) refl))))
 
-    pub takes_of : (p : Plan) → p ≡ plan_as told t e → p.«number» ≡ 0 → Takes t p.me p.place p.gap
+    pub takes_of : (p : Planned) → p ≡ plan_as told t e → p.«number» ≡ 0 → Takes t p.me p.place p.gap
     unfolding plan_as
     takes_of p q z =
         split (eqb (refusal_as told t e) 0)
         (λ b. let same : p ≡ doing t e = q ∙ simp b in rw same (done (eqb-true _ _ b)))
-        (λ b. let same : p ≡ refused_plan (refusal_as told t e) = q ∙ simp b in absurd (eqb-false _ _ b (sym (ap (λ (x : Plan). x.«number») same) ∙ z)))
+        (λ b. let same : p ≡ refused_plan (refusal_as told t e) = q ∙ simp b in absurd (eqb-false _ _ b (sym (ap (λ (x : Planned). x.«number») same) ∙ z)))

@@ -21,7 +21,7 @@ use Rattle.rules.specs.Step.{after}
 use Rattle.act.specs.Desk.{place_limit, out_limit}
 use Rattle.act.specs.declared.Done.{Done}
 use Rattle.act.specs.Done.{done_of}
-use Rattle.plan.specs.declared.Plan.{Plan}
+use Rattle.plan.specs.Plans.{Planned}
 use Rattle.step.specs.Writes.{without, Takes, wires_in_use, wires_after, written_of}
 
 -- an element of two lists in a row, past the first
@@ -241,7 +241,7 @@ module _ (t : Table) (me place gap : ℕ) (k : Takes t me place gap) (long : len
         (λ j b. ap (λ (ws : List Wire). get_or ws j no_wire) blank ∙ padded-high wire_limit no_wire (messages_of t) j (omega (arith, all, length-used)))
 
 -- the table that the code leaves
-pub written_is : (t : Table) (p : Plan) (k : Takes t p.me p.place p.gap) (long : length t.wires ≡ wire_limit) (far : p.done.sent ≤ length p.done.out)
+pub written_is : (t : Table) (p : Planned) (k : Takes t p.me p.place p.gap) (long : length t.wires ≡ wire_limit) (far : p.done.sent ≤ length p.done.out)
     → p.done.sent + t.count ≤ wire_limit + p.gap
     → (q : List Queued) (i : ℕ) (u : Table)
     → Mid (begun t p.me p.done q (t.count - p.gap + p.done.sent)) (target (messages_of t) p.place p.gap (take p.done.sent p.done.out)) i u
@@ -264,7 +264,7 @@ abbrev Writes : Table → ℕ → ℕ → ℕ → Done → Table → Type 0
 Writes t me place gap d u = (w : Work) → w.me ≡ me → length w.queue ≤ queue_limit → d ≡ done_of w → u ≡ after t (without t place gap) w
 
 -- it is the table after the work, where the places past those in use were blank
-pub written-writes : (t : Table) (p : Plan) (k : Takes t p.me p.place p.gap) (long : length t.wires ≡ wire_limit) (far : p.done.sent ≤ length p.done.out)
+pub written-writes : (t : Table) (p : Planned) (k : Takes t p.me p.place p.gap) (long : length t.wires ≡ wire_limit) (far : p.done.sent ≤ length p.done.out)
     → p.done.sent + t.count ≤ wire_limit + p.gap → t.wires ≡ padded wire_limit no_wire (messages_of t) → Writes t p.me p.place p.gap p.done (written_of t p)
 unfolding written_of after
 written-writes t p k long far room blank w own few e =

@@ -6,13 +6,12 @@ use Rattle.table.specs.declared.Table.{Table}
 use Rattle.table.specs.declared.Wire.{Wire}
 use Rattle.table.specs.Limits.{queue_limit, wire_limit}
 use Rattle.table.specs.Numbers.{DONE, WORN, FULL}
-use Rattle.table.specs.declared.Answer.{Answer}
+use Rattle.table.specs.Tables.{Answer}
 use Rattle.table.specs.Tables.{no_wire, messages_of, answer}
 use Rattle.rules.specs.declared.Event.{Event}
 use Rattle.act.specs.Desk.{out_limit}
 use Rattle.act.specs.declared.Done.{Done}
-use Rattle.plan.specs.declared.Plan.{Plan}
-use Rattle.plan.specs.Plans.{placed, plan_as}
+use Rattle.plan.specs.Plans.{Planned, placed, plan_as}
 
 -- the messages without those at place, gap many
 abbrev pub without : Table → ℕ → ℕ → List Wire
@@ -26,12 +25,12 @@ pub record Takes (t : Table) (me place gap : ℕ) : Type 0 where
   pub acts : me < room_limit
 
 -- a plan that is made takes out no more messages than there are, and there are no more than the wires hold
-pub record Sized (count : ℕ) (p : Plan) : Type 0 where
+pub record Sized (count : ℕ) (p : Planned) : Type 0 where
   pub low : p.«number» ≡ DONE → p.gap ≤ count
   pub high : p.«number» ≡ DONE → count ≤ wire_limit
 
 -- what a plan takes out and sends fits the table
-pub record Fits (t : Table) (p : Plan) : Type 0 where
+pub record Fits (t : Table) (p : Planned) : Type 0 where
   pub takes : Takes t p.me p.place p.gap
   pub sent : p.done.sent ≤ out_limit
   pub room : p.done.sent + t.count ≤ wire_limit + p.gap
@@ -45,7 +44,7 @@ unfoldable pub wires_after : Table → ℕ → ℕ → Done → List Wire
 wires_after t place gap d = wires_in_use t place gap d ++ drop (length (wires_in_use t place gap d)) t.wires
 
 -- a plan written into the table
-unfoldable pub written_of : Table → Plan → Table
+unfoldable pub written_of : Table → Planned → Table
 written_of t p =
     record {
       n = t.n;
@@ -57,7 +56,7 @@ written_of t p =
     }
 
 -- the number that is given back for a plan, on a table with so many messages
-unfoldable pub ending_of : ℕ → Plan → ℕ
+unfoldable pub ending_of : ℕ → Planned → ℕ
 ending_of count p =
     if not (eqb p.«number» DONE) then p.«number»
     else (if p.done.worn then WORN
@@ -65,7 +64,7 @@ ending_of count p =
     else DONE))
 
 -- the answer that a plan on t ends in
-unfoldable pub ends_in : Table → Plan → Answer
+unfoldable pub ends_in : Table → Planned → Answer
 ends_in t p =
     if eqb (ending_of t.count p) DONE then answer DONE (written_of t p) else answer (ending_of t.count p) t
 

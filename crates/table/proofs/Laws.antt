@@ -1,62 +1,84 @@
 -- A law for each branch of the fresh table and of the search, over plain values.
-use mathlib.Core.Path.{◌≡◌, refl, sym}
-use mathlib.Core.Bool.{true, and-false}
-use mathlib.Core.List.{List}
-use Prim.Native.Nat.{ℕ, suc, ◌+◌, ◌≤◌, ◌<◌}
-use native.Mathlib.Numerals.{add-one}
+use mathlib.Core.Path.{◌≡◌, refl, sym, ap, ◌∙◌}
+use mathlib.Core.Bool.{true, false, and-false}
+use mathlib.Core.List.{List, [], ◌∷◌}
+use Prim.Native.Nat.{ℕ, zero, suc, ◌+◌, ◌≤◌, ◌<◌}
 use native.Mathlib.Omega.{arith}
-use lib.ListN.{length, get_or, set, replicate, take, drop, length-take, drop_of_length-le}
-use lib.Seq.{drop-cons, get_or-take}
-use borrow.Author.Tests.{le-leb, lt-leb, eq-eqb, ne_eqb}
-use Rattle.std.specs.Prelude.{if◌then◌else◌}
+use lib.ListN.{length, get_or, set, replicate, take, length-take}
+use lib.Seq.{get_or-take}
+use borrow.Author.Tests.{le-leb, lt-leb}
 use Rattle.room.specs.declared.Room.{Room}
 use Rattle.room.specs.Limits.{room_limit}
+use Rattle.table.specs.Limits.{wire_limit}
 use Rattle.room.specs.Record.{blank_room, with_token}
 use Rattle.table.specs.declared.Table.{Table}
 use Rattle.table.specs.declared.Wire.{Wire}
-use Rattle.table.specs.declared.Found.TheVariants as found
+use Rattle.std.specs.Prelude.{Some, None, position, min}
+use Rattle.std.specs.List.{position_or_len}
+use Rattle.std.proofs.lemmas.Grind.{common_steps}
+use Rattle.std.proofs.lemmas.List.{take_min}
+use Rattle.std.proofs.lemmas.List.Sums.{fails_before_first}
+use Rattle.std.proofs.lemmas.List.Quantifiers.{position-Some}
 use Rattle.table.specs.Tables.{no_wire, messages_of, empty_table, fresh_table, blank_table, fresh_of, answer}
-use Rattle.table.specs.Oldest.{between, oldest_in, oldest_of}
+use Rattle.table.specs.Oldest.{found_at, between, oldest_in, oldest_of}
 
--- the fresh table, and what a refusal hands back, at the values that the calls give
+-- the fresh table at the values that the calls give, and what is refused
 module _ (n : ℕ) (r : Room) (e : r ≡ blank_room) (t : Table) where
   pub fresh-done : n ≤ room_limit → 1 ≤ n → t ≡ empty_table n (set (replicate room_limit r) 0 (with_token r true r.toward)) → answer 0 t ≡ fresh_of n
   unfolding fresh_of fresh_table
   fresh-done h k q = rw (q, e) (simp (le-leb 1 n k, le-leb n room_limit h))
 
-  module _ (q : t ≡ empty_table 0 (replicate room_limit r)) where
-    pub fresh-low : n < 1 → answer 3 t ≡ fresh_of n
-    unfolding fresh_of blank_table
-    fresh-low h = rw (q, e) (simp (lt-leb 1 n h))
+module _ (n : ℕ) where
+  pub fresh-low : n < 1 → answer 3 blank_table ≡ fresh_of n
+  unfolding fresh_of
+  fresh-low h = simp (lt-leb 1 n h)
 
-    pub fresh-high : room_limit < n → answer 3 t ≡ fresh_of n
-    unfolding fresh_of blank_table
-    fresh-high h = rw (q, e) (simp (lt-leb n room_limit h, and-false))
+  pub fresh-high : room_limit < n → answer 3 blank_table ≡ fresh_of n
+  unfolding fresh_of
+  fresh-high h = simp (lt-leb n room_limit h, and-false)
 
--- the search at place i of a list
-module _ (a b : ℕ) (ws : List Wire) (n i : ℕ) where
-  -- past the places in use, or past the array, there is nothing
-  pub search-end : length (take n ws) ≤ i → found.Nothing ≡ oldest_in a b i (drop i (take n ws))
+-- the search for the first message is that for its place
+module _ (a b : ℕ) where
+  pub search-hit : (ws : List Wire) (k i : ℕ) → i < length ws → between a b (get_or ws i no_wire) ≡ true → ((j : ℕ) → j < i → between a b (get_or ws j no_wire) ≡ false)
+      → oldest_in a b k ws ≡ Some (found_at (k + i) (get_or ws i no_wire).message)
   unfolding oldest_in
-  search-end h = rw (drop_of_length-le (take n ws) h)
+  search-hit [] k i h p q = absurd (omega arith)
+  search-hit (w ∷ ws) k zero h p q = simp p (ap (λ j. Some (found_at j w.message)) (omega arith))
+  search-hit (w ∷ ws) k (suc i) h p q =
+      let here : between a b w ≡ false = q 0 (omega arith) in
+      simp here (search-hit ws (suc k) i (omega arith) p (λ j l. q (suc j) (omega arith)) ∙ ap (λ j. Some (found_at j (get_or ws i no_wire).message)) (omega arith))
 
-  module _ (low : i < n) (long : i < length ws) where
-    search-at : oldest_in a b i (drop i (take n ws))
-        ≡ (if between a b (get_or ws i no_wire) then found.At i (get_or ws i no_wire).message else oldest_in a b (suc i) (drop (suc i) (take n ws)))
-    unfolding oldest_in
-    search-at =
-        let far : i < length (take n ws) = simp length-take (omega arith) in
-        rw (drop-cons (take n ws) i no_wire far, get_or-take n ws i no_wire low)
+  pub search-miss : (ws : List Wire) (k : ℕ) → ((j : ℕ) → j < length ws → between a b (get_or ws j no_wire) ≡ false) → oldest_in a b k ws ≡ None
+  unfolding oldest_in
+  search-miss [] k q = refl
+  search-miss (w ∷ ws) k q =
+      let here : between a b w ≡ false = q 0 (omega arith) in
+      simp here (search-miss ws (suc k) (λ j l. q (suc j) (omega arith)))
 
-    pub search-here : (get_or ws i no_wire).«from» ≡ a → (get_or ws i no_wire).to ≡ b → found.At i (get_or ws i no_wire).message ≡ oldest_in a b i (drop i (take n ws))
-    search-here p q = sym (simp (eq-eqb _ _ p, eq-eqb _ _ q) at search-at)
+  pub oldest-none : (ws : List Wire) → position (between a b) ws ≡ None → oldest_in a b 0 ws ≡ None
+  oldest-none ws e =
+      let far : length ws ≤ position_or_len (between a b) ws = grind (arith, common_steps) in
+      search-miss ws 0 (λ j h. fails_before_first (between a b) ws j no_wire (omega arith))
 
-    pub search-from : ((get_or ws i no_wire).«from» ≡ a → ⊥) → oldest_in a b (i + 1) (drop (i + 1) (take n ws)) ≡ oldest_in a b i (drop i (take n ws))
-    search-from p = rw add-one (sym (simp (ne_eqb _ _ p) at search-at))
+  pub oldest-some : (ws : List Wire) (i : ℕ) → position (between a b) ws ≡ Some i → oldest_in a b 0 ws ≡ Some (found_at i (get_or ws i no_wire).message)
+  oldest-some ws i e =
+      let h = position-Some (between a b) ws i no_wire e in
+      search-hit ws 0 i h.0 h.1 h.2 ∙ ap (λ j. Some (found_at j (get_or ws i no_wire).message)) (omega arith)
 
-    pub search-to : (get_or ws i no_wire).«from» ≡ a → ((get_or ws i no_wire).to ≡ b → ⊥) → oldest_in a b (i + 1) (drop (i + 1) (take n ws)) ≡ oldest_in a b i (drop i (take n ws))
-    search-to p q = rw add-one (sym (simp (eq-eqb _ _ p, ne_eqb _ _ q) at search-at))
+-- the same of a table, whose messages in use are those that are looked at
+module _ (t : Table) (a b : ℕ) (long : length t.wires ≡ wire_limit) where
+  in-use : take (min t.count wire_limit) t.wires ≡ messages_of t
+  in-use = rw (← long) (take_min t.count t.wires)
 
-pub oldest-start : (t : Table) (a b : ℕ) → oldest_in a b 0 (drop 0 (messages_of t)) ≡ oldest_of t a b
-unfolding oldest_of
-oldest-start t a b = refl
+  pub oldest-absent : position (between a b) (take (min t.count wire_limit) t.wires) ≡ None → None ≡ oldest_of t a b
+  unfolding oldest_of
+  oldest-absent e = sym (oldest-none a b (messages_of t) (rw in-use at e))
+
+  pub oldest-present : (i : ℕ) → position (between a b) (take (min t.count wire_limit) t.wires) ≡ Some i
+      → Some (found_at i (get_or t.wires i no_wire).message) ≡ oldest_of t a b
+  unfolding oldest_of
+  oldest-present i e =
+      let p = rw in-use at e in
+      let h = position-Some (between a b) (messages_of t) i no_wire p in
+      let low : i < t.count = omega (arith, length-take t.count t.wires, h.0) in
+      sym (oldest-some a b (messages_of t) i p ∙ ap (λ w. Some (found_at i w.message)) (get_or-take t.count t.wires i no_wire low))

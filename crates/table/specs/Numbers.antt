@@ -1,5 +1,7 @@
 -- "Numbers given back": document 01's names for them.
-use Rattle.std.specs.Prelude.{ℕ}
+use Rattle.std.specs.Prelude.{ℕ, Result, Ok, Err}
+use Rattle.table.specs.declared.refusal.Refusal.{Refusal}
+use Rattle.table.specs.declared.refusal.Refusal.TheVariants as refusal
 
 abbrev pub DONE : ℕ
 DONE = 0
@@ -36,3 +38,22 @@ WORN = 10
 
 abbrev pub FULL : ℕ
 FULL = 11
+
+-- the number of each refusal
+abbrev pub number_of : Refusal → ℕ
+number_of refusal.Table = TABLE
+number_of refusal.Event = EVENT
+number_of refusal.Room = ROOM
+number_of refusal.Mode = MODE
+number_of refusal.Waiting = WAITING
+number_of refusal.Held = HELD
+number_of refusal.NotHeld = NOT-HELD
+number_of refusal.Empty = EMPTY
+number_of refusal.Busy = BUSY
+number_of refusal.Worn = WORN
+number_of refusal.Full = FULL
+
+-- the number that a result is given back with
+abbrev pub number_in : {A : Type 0} → Result A Refusal → ℕ
+number_in (Ok made) = DONE
+number_in (Err why) = number_of why

@@ -1,5 +1,5 @@
 -- "The table": its rooms, its queue and its messages, and the fresh table.
-use Rattle.std.specs.Prelude.{ℕ, true, ◌&&◌, List, get_or, set, replicate, take, leb, if◌then◌else◌}
+use Rattle.std.specs.Prelude.{ℕ, true, ◌&&◌, List, get_or, set, replicate, take, leb, if◌then◌else◌, Result, Ok, Err}
 use Rattle.modes.specs.Codes.{none}
 use Rattle.room.specs.declared.Room.{Room}
 use Rattle.room.specs.Limits.{room_limit}
@@ -7,9 +7,9 @@ use Rattle.room.specs.Record.{no_room, blank_room, with_token}
 use Rattle.table.specs.declared.Table.{Table}
 use Rattle.table.specs.declared.Wire.{Wire}
 use Rattle.table.specs.declared.Queued.{Queued}
-use Rattle.table.specs.declared.Answer.{Answer}
+use Rattle.table.specs.declared.refusal.Refusal.{Refusal}
 use Rattle.table.specs.declared.Message.TheVariants as msg
-use Rattle.table.specs.Numbers.{DONE, ROOM}
+use Rattle.table.specs.Numbers.{DONE, ROOM, number_of}
 use Rattle.table.specs.Limits.{queue_limit, wire_limit}
 
 -- the one filler of a wire and of a queue place that is not in use
@@ -50,8 +50,17 @@ unfoldable pub blank_table : Table
 blank_table = empty_table 0 (replicate room_limit blank_room)
 
 -- a number given back, and the table after it
+pub record Answer : Type 0 where
+  pub «number» : ℕ
+  pub table : Table
+
 abbrev pub answer : ℕ → Table → Answer
 answer k t = record { «number» = k; table = t }
+
+-- what a result says of the table t that it was tried on: "All but 0 return the table as it came."
+abbrev pub answer_in : Table → Result Table Refusal → Answer
+answer_in t (Ok u) = answer DONE u
+answer_in t (Err refusal) = answer (number_of refusal) t
 
 -- "3 ROOM: .. a fresh table asked with n = 0 or above 16"
 unfoldable pub fresh_of : ℕ → Answer

@@ -1,15 +1,14 @@
 // The table by value: rooms, queue and messages; the fresh table; the search for the oldest message.
 #![tactic(auto)]
 
-ghost use Rattle.std.specs.Prelude.{◌≡◌};
-ghost use Rattle.table.specs.Tables.{empty_table, fresh_of};
-ghost use Rattle.table.specs.Oldest.{oldest_of};
+ghost use Rattle.std.specs.Prelude.{◌≡◌, position};
+ghost use Rattle.table.specs.Tables.{empty_table, blank_table, fresh_of, answer_in};
+ghost use Rattle.table.specs.Oldest.{between, oldest_of};
 
-use room::{MOST_ROOMS, ROOMS};
+mod refusal; // refusal.rt: the numbers given back
 
-pub mod numbers; // numbers.rt: the numbers given back
-
-use room::Room;
+pub use refusal::{DONE, Refusal};
+use room::{MOST_ROOMS, ROOMS, Room};
 
 // The places of the queue.
 pub const QUEUE: usize = 16;
@@ -17,8 +16,9 @@ pub const QUEUE: usize = 16;
 pub const WIRES: usize = 256;
 
 // What a wire carries. Nothing stands on a wire that is not in use.
-#[derive(Clone, Copy)]
+#[derive(Clone, Copy, PartialEq, Eq, Default)]
 pub enum Message {
+    #[default]
     Nothing,
     Request { origin: u8, mode: u8, idle: bool },
     Grant { mode: u8, link: u32 },
@@ -26,7 +26,7 @@ pub enum Message {
     Reduce { link: u32, mode: u8 },
 }
 
-#[derive(Clone, Copy)]
+#[derive(Clone, Copy, PartialEq, Eq, Default)]
 pub struct Wire {
     pub from: u8,
     pub to: u8,
@@ -34,7 +34,7 @@ pub struct Wire {
 }
 
 // A room that waits in the queue, with its wanted mode.
-#[derive(Clone, Copy)]
+#[derive(Clone, Copy, PartialEq, Eq, Default)]
 pub struct Queued {
     pub room: u8,
     pub mode: u8,
@@ -52,7 +52,7 @@ pub const NO_QUEUED: Queued = Queued {
     mode: modes::NONE,
 };
 
-#[derive(Clone, Copy)]
+#[derive(Clone, Copy, PartialEq, Eq)]
 pub struct Table {
     pub n: u8,
     pub rooms: [Room; ROOMS],
@@ -62,18 +62,11 @@ pub struct Table {
     pub count: usize,
 }
 
-// What the search for a message answers.
-#[derive(Clone, Copy)]
-pub enum Found {
-    At { place: usize, message: Message },
-    Nothing,
-}
-
-// A number given back, and the table after it.
-#[derive(Clone, Copy)]
-pub struct Answer {
-    pub number: u8,
-    pub table: Table,
+// A message, and its place among the wires.
+#[derive(Clone, Copy, PartialEq, Eq)]
+pub struct Found {
+    pub place: usize,
+    pub message: Message,
 }
 
 // A table of n rooms with these records, and nothing queued or under way.
@@ -90,48 +83,39 @@ fn laid(n: u8, rooms: [Room; ROOMS]) -> Table
     }
 }
 
-// A fresh table of n rooms; 3 and a table of no rooms where n is 0 or above 16.
-pub fn fresh(n: u8) -> Answer
-    ensures { result ≡ fresh_of n }
+// A table of no rooms, with nothing in it. It is not well formed.
+pub fn blank() -> Table
+    ensures { result ≡ blank_table }
 {
-    let blank = Room::blank();
-    let mut rooms = [blank; ROOMS];
+    laid(0, [Room::blank(); ROOMS])
+}
+
+// A fresh table of n rooms; refused where n is 0 or above 16.
+pub fn fresh(n: u8) -> Result<Table, Refusal>
+    ensures { answer_in blank_table result ≡ fresh_of n }
+{
     match n {
         1..=MOST_ROOMS => {
+            let mut rooms = [Room::blank(); ROOMS];
             rooms[0].token = true;
-            Answer {
-                number: numbers::DONE,
-                table: laid(n, rooms),
-            }
+            Ok(laid(n, rooms))
         }
-        _ => Answer {
-            number: numbers::ROOM,
-            table: laid(0, rooms),
-        },
+        _ => Err(Refusal::Room),
     }
 }
 
+// The place of the first of these messages that goes from a to b.
+fn place_of(wires: &[Wire], a: u8, b: u8) -> Option<usize>
+    ensures { result ≡ position (between a b) wires.now }
+{
+    wires.iter().position(|w| w.from == a && w.to == b)
+}
+
 // The oldest message from a to b, with its place, or nothing.
-pub fn oldest(t: Table, a: u8, b: u8) -> Found
+pub fn oldest(t: Table, a: u8, b: u8) -> Option<Found>
     ensures { result ≡ oldest_of t a b }
 {
-    let count = t.count;
-    let mut i: usize = 0;
-    while i < WIRES {
-        if i >= count {
-            return Found::Nothing;
-        }
-        let w = t.wires[i];
-        if w.from == a {
-            if w.to == b {
-                let message = w.message;
-                return Found::At {
-                    place: i,
-                    message: message,
-                };
-            }
-        }
-        i += 1;
-    }
-    Found::Nothing
+    let place = place_of(&t.wires[..t.count.min(WIRES)], a, b)?;
+    let message = t.wires[place].message;
+    Some(Found { place, message })
 }

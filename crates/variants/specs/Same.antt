@@ -2,10 +2,10 @@
 use Rattle.std.specs.Prelude.{◌≡◌, true, ℕ}
 use Rattle.std.proofs.Math.Path.{refl, ap}
 use Rattle.base.specs.Lists.{remove}
+use Rattle.std.specs.Prelude.{Option, Some, None}
 use Rattle.table.specs.declared.Table.{Table}
 use Rattle.table.specs.declared.Message.{Message}
 use Rattle.table.specs.declared.Found.{Found}
-use Rattle.table.specs.declared.Found.TheVariants as found
 use Rattle.table.specs.Tables.{messages_of}
 use Rattle.table.specs.Oldest.{oldest_of}
 use Rattle.table.specs.Formed.{well_formed}
@@ -22,10 +22,10 @@ pub record Right (r : Rules) : Type 0 where
   pub receives-right : (w : Work) (a : ℕ) (m : Message) → r.receives w a m ≡ receive w a m
 
 module _ (r : Rules) (same : Right r) where
-  same-delivered : (t : Table) (a b : ℕ) (f : Found) → delivered_by r t a b f ≡ delivered t a b f
+  same-delivered : (t : Table) (a b : ℕ) (f : Option Found) → delivered_by r t a b f ≡ delivered t a b f
   unfolding delivered_by delivered
-  same-delivered t a b found.Nothing = refl
-  same-delivered t a b (found.At k m) = ap (outcome t (remove k (messages_of t))) (same.receives-right (work_at t b) a m)
+  same-delivered t a b None = refl
+  same-delivered t a b (Some found) = ap (outcome t (remove found.place (messages_of t))) (same.receives-right (work_at t b) a found.message)
 
   -- whatever the table
   pub same-made : (t : Table) (e : Event) → made_by r t e ≡ made t e

@@ -2,10 +2,10 @@
 -- fresh one fails it; with other rules a table may fail it, and is worked on all the same.
 use Rattle.std.specs.Prelude.{ℕ, true, List, [], ◌∷◌, eqb, if◌then◌else◌}
 use Rattle.base.specs.Lists.{remove}
+use Rattle.std.specs.Prelude.{Option, Some, None}
 use Rattle.table.specs.declared.Table.{Table}
-use Rattle.table.specs.declared.Answer.{Answer}
+use Rattle.table.specs.Tables.{Answer}
 use Rattle.table.specs.declared.Found.{Found}
-use Rattle.table.specs.declared.Found.TheVariants as found
 use Rattle.table.specs.declared.Message.{Message}
 use Rattle.table.specs.Numbers.{DONE, EMPTY}
 use Rattle.table.specs.Tables.{messages_of, answer}
@@ -24,9 +24,9 @@ pub record Rules : Type 0 where
   pub receives : Work → ℕ → Message → Work
 
 module _ (r : Rules) where
-  unfoldable pub delivered_by : Table → ℕ → ℕ → Found → Answer
-  delivered_by t a b found.Nothing = answer EMPTY t
-  delivered_by t a b (found.At k m) = outcome t (remove k (messages_of t)) (r.receives (work_at t b) a m)
+  unfoldable pub delivered_by : Table → ℕ → ℕ → Option Found → Answer
+  delivered_by t a b None = answer EMPTY t
+  delivered_by t a b (Some found) = outcome t (remove found.place (messages_of t)) (r.receives (work_at t b) a found.message)
 
   unfoldable pub made_by : Table → Event → Answer
   made_by t e =

@@ -1,132 +1,67 @@
-// A table with what a command changes in it. A place that there is not stays out.
+// What a command changes in a table. A place that there is not stays out.
 use crate::command::{Command, byte, link};
-use crate::{message, words};
-use room::{Entry, ROOMS, Room};
-use table::{Message, QUEUE, Queued, Table, WIRES, Wire};
+use crate::words::Word;
+use room::{Entry, Room};
+use table::{Message, Queued, Table, WIRES, Wire};
 
-// A record with another entry.
-fn with_entry(mut r: Room, c: Command) -> Room {
-    let j = c.b;
-    if j < ROOMS {
-        r.entries[j] = Entry {
-            mode: byte(c.c),
-            link: link(c.d),
+// What is laid on the wires to fill them: it falls on nothing.
+const FILLING: Wire = Wire {
+    from: 1,
+    to: 0,
+    message: Message::Reduce {
+        link: 7,
+        mode: modes::NONE,
+    },
+};
+
+// Another value at a place, or one more behind those in use where there is no such place.
+fn lay<T: Copy>(places: &mut [T], used: &mut usize, at: Option<usize>, value: T) {
+    match at {
+        Some(place) if place < places.len() => places[place] = value,
+        _ => {
+            if let Some(next) = places.get_mut(*used) {
+                *next = value;
+                *used += 1;
+            }
+        }
+    }
+}
+
+// Messages up to so many.
+fn fill(t: &mut Table, count: usize) {
+    for _ in t.count..count.min(WIRES) {
+        lay(&mut t.wires, &mut t.count, None, FILLING);
+    }
+}
+
+// Another entry of a record.
+fn enter(room: &mut Room, c: &Command) {
+    let [_, place, mode, number, _] = c.values;
+    if let Some(entry) = room.entries.get_mut(place) {
+        *entry = Entry {
+            mode: byte(mode),
+            link: link(number),
         };
     }
-    r
 }
 
-// A record with another field, or another entry.
-fn changed_room(rt: &impl Print, mut r: Room, c: Command) -> Room {
-    let value = byte(c.b);
-    let word = c.word;
-    match word {
-        words::HELD => {
-            r.held = value;
-        }
-        words::WANTED => {
-            r.wanted = value;
-        }
-        words::TOKEN => {
-            r.token = value != 0;
-        }
-        words::TOWARD => {
-            r.toward = value;
-        }
-        words::LENDER => {
-            r.lender = value;
-        }
-        words::CREDIT => {
-            r.credit = value;
-        }
-        words::LINK => {
-            r.link = link(c.b);
-        }
-        words::COUNTER => {
-            r.counter = link(c.b);
-        }
-        words::ENTRY => return with_entry(r, c),
-        _ => words::unknown(rt),
-    }
-    r
-}
-
-// A room's record is changed.
-fn with_room(rt: &impl Print, mut t: Table, c: Command) -> Table {
-    let at = c.a;
-    if at < ROOMS {
-        let mut r = t.rooms[at];
-        r = changed_room(rt, r, c);
-        t.rooms[at] = r;
-    }
-    t
-}
-
-// Another place i of the queue, or one more where there is no such place.
-fn with_place(mut t: Table, i: usize, q: Queued) -> Table {
-    let mut at = i;
-    if i >= QUEUE {
-        at = t.queued;
-        if at < QUEUE {
-            t.queued = at + 1;
-        }
-    }
-    if at < QUEUE {
-        t.queue[at] = q;
-    }
-    t
-}
-
-// Another message on wire i, or one more where there is no such wire.
-fn with_message(mut t: Table, i: usize, w: Wire) -> Table {
-    let mut at = i;
-    if i >= WIRES {
-        at = t.count;
-        if at < WIRES {
-            t.count = at + 1;
-        }
-    }
-    if at < WIRES {
-        t.wires[at] = w;
-    }
-    t
-}
-
-// REDUCEs from room 1 to room 0 up to so many messages.
-fn with_reduces(mut t: Table, count: usize) -> Table {
-    let w = Wire {
-        from: 1,
-        to: 0,
-        message: Message::Reduce {
-            link: 7,
-            mode: modes::NONE,
-        },
-    };
-    let mut i = t.count;
-    while i < WIRES {
-        if i < count {
-            t = with_message(t, WIRES, w);
-        }
-        i += 1;
-    }
-    t
-}
-
-// Another number of rooms, of queue places in use, or of messages.
-fn with_size(mut t: Table, c: Command) -> Table {
-    let word = c.word;
-    match word {
-        words::ROOMS => {
-            t.n = byte(c.a);
-        }
-        words::QUEUED => {
-            t.queued = c.a;
-        }
+// Another field of a record, or another entry. A word that is not understood is told: what is printed is then not what is expected.
+fn change_room(rt: &impl Print, room: &mut Room, c: &Command) {
+    let [_, value, ..] = c.values;
+    match c.word {
+        Some(Word::Held) => room.held = byte(value),
+        Some(Word::Wanted) => room.wanted = byte(value),
+        Some(Word::Token) => room.token = value != 0,
+        Some(Word::Toward) => room.toward = byte(value),
+        Some(Word::Lender) => room.lender = byte(value),
+        Some(Word::Credit) => room.credit = byte(value),
+        Some(Word::Link) => room.link = link(value),
+        Some(Word::Counter) => room.counter = link(value),
+        Some(Word::Entry) => enter(room, c),
         _ => {
-            t.count = c.a;
+            let _ = println!(rt; "a word not understood");
         }
     }
-    t
 }
 
 // A place of the queue by its numbers.
@@ -137,17 +72,24 @@ fn queued(room: usize, mode: usize) -> Queued {
     }
 }
 
-// A table with another queue, other messages, other sizes, or another record of a room. A message is laid on the wire given.
-pub fn changed(rt: &impl Print, t: Table, wire: usize, c: Command) -> Table {
-    let word = c.word;
-    match word {
-        words::REQUEST | words::GRANT | words::PASS | words::REDUCE | words::NOTHING => {
-            with_message(t, wire, message::wire(c))
+// Another queue, other messages, other sizes, or another record of a room. A message is laid on the wire given.
+pub fn change(rt: &impl Print, t: &mut Table, wire: Option<usize>, c: &Command) {
+    let [a, b, d, ..] = c.values;
+    if let Some(message) = c.wire() {
+        lay(&mut t.wires, &mut t.count, wire, message);
+        return;
+    }
+    match c.word {
+        Some(Word::Fill) => fill(t, a),
+        Some(Word::Join) => lay(&mut t.queue, &mut t.queued, None, queued(a, b)),
+        Some(Word::Place) => lay(&mut t.queue, &mut t.queued, Some(a), queued(b, d)),
+        Some(Word::Rooms) => t.n = byte(a),
+        Some(Word::Queued) => t.queued = a,
+        Some(Word::Count) => t.count = a,
+        _ => {
+            if let Some(room) = t.rooms.get_mut(a) {
+                change_room(rt, room, c);
+            }
         }
-        words::FILL => with_reduces(t, c.a),
-        words::JOIN => with_place(t, QUEUE, queued(c.a, c.b)),
-        words::PLACE => with_place(t, c.a, queued(c.b, c.c)),
-        words::ROOMS | words::QUEUED | words::COUNT => with_size(t, c),
-        _ => with_room(rt, t, c),
     }
 }

@@ -1,117 +1,125 @@
-// A command, read byte by byte: a word and its values, with single spaces between them. Values that are not there are zero.
+// A command: a word and its values, with single spaces between them.
+use crate::words::Word;
+use rules::Event;
+use table::{Message, Wire};
 
-// A word whose number is below this one takes another letter.
-const LONG: u64 = 0x01_00_00_00_00_00_00_00;
+// The values of a command.
+const VALUES: usize = 5;
 // No value goes on growing from here.
 const LARGE: usize = 100000000000;
-// After the I of IR or IW.
+// After the I of IR or IW. No variant of an enum, since digits can make this number too, and are then read on as an I is.
 const INTENT: usize = LARGE + 1;
 
-// Part 0 of a command is its word, parts 1 to 5 its values a to e.
+// What a text asks for: no word where it is not understood, and zero for each value that is not there.
 #[derive(Clone, Copy)]
 pub struct Command {
-    pub part: u8,
-    pub word: u64,
-    pub a: usize,
-    pub b: usize,
-    pub c: usize,
-    pub d: usize,
-    pub e: usize,
+    pub word: Option<Word>,
+    pub values: [usize; VALUES],
 }
 
-// Before the first byte.
-pub fn none() -> Command {
-    Command {
-        part: 0,
-        word: 0,
-        a: 0,
-        b: 0,
-        c: 0,
-        d: 0,
-        e: 0,
+impl Command {
+    // The command of a text. Spaces and zero bytes before the word are passed over; the last value has all that is left, spaces too.
+    pub fn read(text: &[u8]) -> Command {
+        let start = text
+            .iter()
+            .position(|b| !matches!(*b, 0 | b' '))
+            .unwrap_or(text.len());
+        let mut parts = text[start..].splitn(VALUES + 1, |b| *b == b' ');
+        let word = parts
+            .next()
+            .and_then(|letters| Word::try_from(letters).ok());
+        let mut values = [0; VALUES];
+        for (value, part) in values.iter_mut().zip(parts) {
+            *value = part.iter().fold(0, |value, b| grown(value, *b));
+        }
+        Command { word, values }
     }
-}
 
-// A word after one more letter.
-fn lettered(word: u64, b: u8) -> u64 {
-    if word < LONG {
-        word * 256 + b as u64
-    } else {
-        word
+    // The event that it names. What an event does not use is ignored, and so may be the value that another uses.
+    pub fn event(&self) -> Option<Event> {
+        let [a, b, c, d, _] = self.values;
+        let kind = match self.word? {
+            Word::Ask => rules::ASK,
+            Word::Upgrade => rules::UPGRADE,
+            Word::HandBack => rules::HANDBACK,
+            Word::Deliver => rules::DELIVER,
+            Word::Event => {
+                return Some(Event {
+                    kind: byte(a),
+                    room: byte(b),
+                    other: byte(c),
+                    mode: byte(d),
+                });
+            }
+            _ => return None,
+        };
+        Some(Event {
+            kind,
+            room: byte(a),
+            other: byte(b),
+            mode: byte(b),
+        })
     }
-}
 
-// One of two modes: the one after an I, and the one without.
-fn either(value: usize, intent: u8, plain: u8) -> usize {
-    if value == INTENT {
-        intent as usize
-    } else {
-        plain as usize
+    // The message that it names.
+    fn message(&self) -> Option<Message> {
+        let [_, _, c, d, e] = self.values;
+        Some(match self.word? {
+            Word::Request => Message::Request {
+                origin: byte(c),
+                mode: byte(d),
+                idle: e != 0,
+            },
+            Word::Grant => Message::Grant {
+                mode: byte(c),
+                link: link(d),
+            },
+            Word::Pass => Message::Token {
+                mode: byte(c),
+                rest: byte(d),
+                link: link(e),
+            },
+            Word::Reduce => Message::Reduce {
+                link: link(c),
+                mode: byte(d),
+            },
+            Word::Nothing => Message::Nothing,
+            _ => return None,
+        })
+    }
+
+    // The message that it names, from the room of its first value to that of its second.
+    pub fn wire(&self) -> Option<Wire> {
+        let [a, b, ..] = self.values;
+        let message = self.message()?;
+        Some(Wire {
+            from: byte(a),
+            to: byte(b),
+            message,
+        })
     }
 }
 
 // A value after one more byte: a digit, or a letter of a mode's name.
 fn grown(value: usize, b: u8) -> usize {
     match b {
-        b'0'..=b'9' => {
-            if value < LARGE {
-                value * 10 + (b - b'0') as usize
-            } else {
-                value
-            }
-        }
+        b'0'..=b'9' if value < LARGE => value * 10 + usize::from(b - b'0'),
         b'I' => INTENT,
-        b'R' => either(value, modes::IR, modes::R),
-        b'U' => modes::U as usize,
-        b'W' => either(value, modes::IW, modes::W),
+        b'R' if value == INTENT => usize::from(modes::IR),
+        b'R' => usize::from(modes::R),
+        b'U' => usize::from(modes::U),
+        b'W' if value == INTENT => usize::from(modes::IW),
+        b'W' => usize::from(modes::W),
         _ => value,
     }
 }
 
-// The command after one more byte. At a space its next part begins, but for spaces before the word.
-pub fn after(mut c: Command, byte: u8) -> Command {
-    let part = c.part;
-    if byte == b' ' {
-        if part < 5 {
-            if c.word != 0 {
-                c.part = part + 1;
-            }
-        }
-        return c;
-    }
-    match part {
-        0 => {
-            c.word = lettered(c.word, byte);
-        }
-        1 => {
-            c.a = grown(c.a, byte);
-        }
-        2 => {
-            c.b = grown(c.b, byte);
-        }
-        3 => {
-            c.c = grown(c.c, byte);
-        }
-        4 => {
-            c.d = grown(c.d, byte);
-        }
-        _ => {
-            c.e = grown(c.e, byte);
-        }
-    }
-    c
-}
-
-// A value as a byte: 255 where it is larger.
+// A value as a byte: the largest where it is larger.
 pub fn byte(value: usize) -> u8 {
-    if value < 256 { value as u8 } else { 255 }
+    u8::try_from(value).unwrap_or(u8::MAX)
 }
 
 // A value as a link number: the last one where it is larger.
 pub fn link(value: usize) -> u32 {
-    if value <= room::LAST_LINK as usize {
-        value as u32
-    } else {
-        room::LAST_LINK
-    }
+    u32::try_from(value).unwrap_or(room::LAST_LINK)
 }

@@ -1,107 +1,89 @@
 // The table at hand, and what a command does to it.
+use crate::change;
 use crate::command::{Command, byte};
-use crate::{change, words};
+use crate::words::Word;
 use rules::Event;
-use table::{Answer, Table, WIRES};
+use table::{DONE, Table};
 
-// The place of the table at hand, behind those of the tables that can be kept.
-const HAND: usize = 10;
-// The places of tables.
-const PLACES: usize = HAND + 1;
+// The places where tables are kept.
+const PLACES: usize = 10;
 
-// The tables kept, and the one at hand behind them; the wire that the next message is laid on, which is past the last one where it
-// is sent; the number that the last command gave back. That all tables are of one array makes the type half as large, and the proofs
-// of what has a desk with it.
-#[derive(Clone, Copy)]
+// The tables kept and the one at hand; the wire that the next message is laid on, where it is not sent; what the last command gave back, as
+// the number that is printed.
+#[derive(Drop)]
 pub struct Desk {
-    pub tables: [Table; PLACES],
-    pub wire: usize,
+    kept: [Table; PLACES],
+    hand: Table,
+    wire: Option<usize>,
     pub number: u8,
 }
 
-// No table yet.
-pub fn bare() -> Desk {
-    let a = table::fresh(0);
-    let t = a.table;
-    Desk {
-        tables: [t; PLACES],
-        wire: WIRES,
-        number: 0,
-    }
-}
-
-// The table at one place is laid at another too, where there are such places.
-fn copied(mut d: Desk, from: usize, to: usize) -> Desk {
-    if from < PLACES {
-        if to < PLACES {
-            let t = d.tables[from];
-            d.tables[to] = t;
+impl Desk {
+    // No table yet.
+    pub fn bare() -> Desk {
+        let blank = table::blank();
+        Desk {
+            kept: [blank; PLACES],
+            hand: blank,
+            wire: None,
+            number: DONE,
         }
     }
-    d
-}
 
-// The event of a command. What an event does not use is ignored, and so may be the value that another uses.
-fn event(c: Command) -> Event {
-    let word = c.word;
-    let kind = match word {
-        words::ASK => rules::ASK,
-        words::UPGRADE => rules::UPGRADE,
-        words::HANDBACK => rules::HANDBACK,
-        words::DELIVER => rules::DELIVER,
-        _ => {
-            return Event {
-                kind: byte(c.a),
-                room: byte(c.b),
-                other: byte(c.c),
-                mode: byte(c.d),
-            };
+    // The table at hand is kept at a place, where there is such a place.
+    fn keep(&mut self, place: usize) {
+        if let Some(table) = self.kept.get_mut(place) {
+            *table = self.hand;
         }
-    };
-    Event {
-        kind: kind,
-        room: byte(c.a),
-        other: byte(c.b),
-        mode: byte(c.b),
     }
-}
 
-// What a command gives back: the answer to an event, or a fresh table; 0 with a table that is changed by hand.
-fn answer(rt: &impl Print, t: Table, wire: usize, c: Command) -> Answer {
-    let word = c.word;
-    match word {
-        words::NEW | words::FRESH => table::fresh(byte(c.a)),
-        words::ASK | words::UPGRADE | words::HANDBACK | words::DELIVER | words::EVENT => {
-            step::step(t, event(c))
+    // A table that was kept is at hand again.
+    fn take(&mut self, place: usize) {
+        if let Some(table) = self.kept.get(place) {
+            self.hand = *table;
         }
-        _ => Answer {
-            number: 0,
-            table: change::changed(rt, t, wire, c),
-        },
     }
-}
 
-// A command on the table at hand. That a refused table comes back as it came is proved of the step, and not looked at here.
-fn answered(rt: &impl Print, mut d: Desk, c: Command) -> Desk {
-    let mut t = d.tables[HAND];
-    let a = answer(rt, t, d.wire, c);
-    t = a.table;
-    d.tables[HAND] = t;
-    d.wire = WIRES;
-    d.number = a.number;
-    d
-}
+    // A fresh table is at hand, or one of no rooms where that is refused.
+    fn begin(&mut self, n: u8) {
+        (self.hand, self.number) = match table::fresh(n) {
+            Ok(table) => (table, DONE),
+            Err(refusal) => (table::blank(), refusal.into()),
+        };
+    }
 
-// A command is carried out.
-pub fn obey(rt: &impl Print, mut d: Desk, c: Command) -> Desk {
-    let word = c.word;
-    match word {
-        words::KEEP => copied(d, HAND, c.a),
-        words::TAKE => copied(d, c.a, HAND),
-        words::AT => {
-            d.wire = c.a;
-            d
+    // The table at hand is stepped, or stays where that is refused.
+    fn step(&mut self, event: Event) {
+        self.number = match step::step(self.hand, event) {
+            Ok(table) => {
+                self.hand = table;
+                DONE
+            }
+            Err(refusal) => refusal.into(),
+        };
+    }
+
+    // A command on the table at hand.
+    fn answer(&mut self, rt: &impl Print, c: &Command) {
+        if let Some(event) = c.event() {
+            self.step(event);
+        } else if c.word == Some(Word::Fresh) {
+            self.begin(byte(c.values[0]));
+        } else {
+            change::change(rt, &mut self.hand, self.wire, c);
+            self.number = DONE;
         }
-        _ => answered(rt, d, c),
+        self.wire = None;
+    }
+
+    // A command is carried out.
+    pub fn obey(&mut self, rt: &impl Print, c: &Command) {
+        let [a, ..] = c.values;
+        match c.word {
+            Some(Word::Keep) => self.keep(a),
+            Some(Word::Take) => self.take(a),
+            Some(Word::At) => self.wire = Some(a),
+            _ => self.answer(rt, c),
+        }
     }
 }

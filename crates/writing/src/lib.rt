@@ -1,119 +1,97 @@
 // Writing an answer: the number, the token's room or `*`, the messages on the wires, and each room's held mode.
 #![tactic(auto)]
 
-ghost use Rattle.std.specs.Prelude.{◌≡◌, ◌+◌, ◌≤◌, min, ◌∷◌, map, length, take};
+ghost use Rattle.std.specs.Prelude.{◌≡◌, ◌+◌, ◌*◌, ◌≤◌, ◌++◌, ◌∷◌, length};
+ghost use Rattle.arrayvec.specs.ArrayString.{array_string_len};
 ghost use Rattle.base.specs.Letters.{space};
 ghost use Rattle.room.specs.Limits.{room_limit};
-ghost use Rattle.writing.specs.Answers.{mode_text, spaced};
+ghost use Rattle.writing.specs.Answers.{decimal, mode_text, token_room, token_text};
 ghost use Rattle.writing.specs.Written.{length_of, written_of};
-ghost use Rattle.writing.specs.Words.{spaced_limit, modes_limit, view_limit, spelled, laid, view_of, texts, token_after};
+ghost use Rattle.writing.specs.Words.{word_limit, rooms_limit, held_text, rooms_text};
 
-mod words;
-
-use room::ROOMS;
+use arrayvec::ArrayString;
+use itoa::Buffer;
+use modes::{IR, IW, NONE, R, U, W};
+use room::{ROOMS, Room};
 use table::Table;
-use words::{Word, put};
 
 // Bytes that hold any answer.
 pub const LINE: usize = 64;
 
-// What is shown of a table: how many rooms there are, which has the token, the messages on the wires, and the held modes.
-#[derive(Clone, Copy)]
-pub struct View {
-    pub rooms: usize,
-    pub token: usize,
-    pub count: usize,
-    pub held: [u8; ROOMS],
+// The largest number that is shown.
+const MOST_SHOWN: usize = 999;
+
+// A number at the end of a line, of which MOST_SHOWN is the largest that is shown.
+#[tactic(auto, using(crate::proofs::Numbers::number_short, crate::proofs::Numbers::number_text))]
+fn push_number(line: &mut ArrayString<LINE>, k: usize)
+    requires { array_string_len line.old + word_limit ≤ LINE }
+    ensures bytes { line.new.bytes ≡ line.old.bytes ++ decimal k }
+    ensures short { array_string_len line.new ≤ array_string_len line.old + word_limit }
+{
+    let mut buffer = Buffer::new();
+    line.push_str(buffer.format(k.min(MOST_SHOWN)));
 }
 
-// The smaller of two.
-fn least(a: usize, b: usize) -> usize
-    ensures { result ≡ min a b }
+// A mode's letters.
+#[tactic(auto, unfolding(crate::specs::Answers::mode_text))]
+fn mode_text(m: u8) -> &'static str
+    ensures text { result.now ≡ mode_text m }
+    ensures short { length result.now ≤ 2 }
 {
-    if a < b { a } else { b }
-}
-
-// The first room that has the token among rooms 0 to i, where c is that among those before i, and i where none of them has.
-// Only for seen, which is proved: i is no more than the rooms that there can be.
-fn token_after(c: usize, i: usize, has: bool) -> usize
-    requires { i ≤ room_limit }
-    ensures { result ≡ token_after c i has }
-{
-    if c != i {
-        return c;
-    }
-    if has {
-        return c;
-    }
-    i + 1
-}
-
-// What is shown of a table.
-fn seen(t: Table) -> View
-    ensures { result ≡ view_of t }
-{
-    let n = least(t.n as usize, ROOMS);
-    let mut held = [0u8; ROOMS];
-    let mut token: usize = 0;
-    let mut i: usize = 0;
-    while i < n {
-        let room = t.rooms[i];
-        held[i] = room.held;
-        token = token_after(token, i, room.token);
-        i += 1;
-    }
-    View {
-        rooms: n,
-        token: token,
-        count: t.count,
-        held: held,
+    match m {
+        NONE => "-",
+        IR => "IR",
+        R => "R",
+        U => "U",
+        IW => "IW",
+        W => "W",
+        6..=255 => "?",
     }
 }
 
-// A space and a word at a place of out, and the place behind them.
-// Only for proved callers in this module: out has the bytes for them from the place on.
-fn put_spaced(out: &mut [u8], at: usize, w: Word) -> usize
-    requires { at + spaced_limit ≤ length out.old }
-    ensures value { result ≡ at + length (space ∷ spelled w) }
-    ensures out_after { out.new ≡ laid out.old at (space ∷ spelled w) }
+// The first room that has the token; a star where none has.
+fn push_token(line: &mut ArrayString<LINE>, rooms: &[Room])
+    requires { array_string_len line.old + word_limit ≤ LINE }
+    ensures bytes { line.new.bytes ≡ line.old.bytes ++ token_text (token_room rooms.now) (length rooms.now) }
+    ensures short { array_string_len line.new ≤ array_string_len line.old + word_limit }
 {
-    out[at] = b' ';
-    put(out, at + 1, w)
+    match rooms.iter().position(|room| room.token) {
+        Some(place) => push_number(line, place),
+        None => line.push_str("*"),
+    }
 }
 
-// The held modes.
-// Only for put_view, which is proved: out has the bytes for them, and n is no more than there are.
-fn put_modes(out: &mut [u8], from: usize, held: [u8; ROOMS], n: usize) -> usize
-    requires { (from + modes_limit ≤ length out.old) × (n ≤ room_limit) }
-    ensures value { result ≡ from + length (spaced (map mode_text (take n held))) }
-    ensures out_after { out.new ≡ laid out.old from (spaced (map mode_text (take n held))) }
+// Each room's held mode, after a space.
+fn push_modes(line: &mut ArrayString<LINE>, rooms: &[Room])
+    requires { array_string_len line.old + 3 * length rooms.now ≤ LINE }
+    ensures bytes { line.new.bytes ≡ line.old.bytes ++ held_text rooms.now }
+    ensures short { array_string_len line.new ≤ array_string_len line.old + 3 * length rooms.now }
 {
-    let mut at = from;
-    let mut i: usize = 0;
-    while i < n {
-        at = put_spaced(out, at, words::mode(held[i]));
-        i += 1;
+    for room in rooms {
+        line.push_str(" ");
+        line.push_str(mode_text(room.held));
     }
-    at
 }
 
-// What is shown of a table, each word after a space.
-// Only for write_line, which is proved: out has the bytes for it, and the view no more rooms than held modes.
-fn put_view(out: &mut [u8], from: usize, v: View) -> usize
-    requires { (from + view_limit ≤ length out.old) × (v.rooms ≤ room_limit) }
-    ensures value { result ≡ from + length (spaced (texts v)) }
-    ensures out_after { out.new ≡ laid out.old from (spaced (texts v)) }
+// What is shown of a table, each word after a space; nothing where there are no rooms.
+fn push_rooms(line: &mut ArrayString<LINE>, rooms: &[Room], count: usize)
+    requires fits { array_string_len line.old + rooms_limit ≤ LINE }
+    requires few { length rooms.now ≤ room_limit }
+    ensures bytes { line.new.bytes ≡ line.old.bytes ++ rooms_text rooms.now count }
+    ensures short { array_string_len line.new ≤ array_string_len line.old + rooms_limit }
 {
-    if v.rooms == 0 {
-        return from;
+    if rooms.is_empty() {
+        return;
     }
-    let token = put_spaced(out, from, words::token(v.token, v.rooms));
-    let count = put_spaced(out, token, words::number(v.count));
-    let held = v.held;
-    put_modes(out, count, held, v.rooms)
+    line.push_str(" ");
+    push_token(line, rooms);
+    line.push_str(" ");
+    push_number(line, count);
+    push_modes(line, rooms);
 }
 
 // The answer line at the start of out, and its length; nothing where out is shorter than a line can be.
+#[tactic(auto, using(crate::proofs::Rooms::shown_rooms), unfolding(crate::specs::Written::written_of, crate::specs::Written::length_of, crate::specs::Answers::line_of))]
 pub fn write_line(number: u8, t: Table, out: &mut [u8]) -> usize
     ensures value { result ≡ length_of «number» t out.old }
     ensures out_after { out.new ≡ written_of «number» t out.old }
@@ -121,9 +99,12 @@ pub fn write_line(number: u8, t: Table, out: &mut [u8]) -> usize
     if out.len() < LINE {
         return 0;
     }
-    let v = seen(t);
-    let front = put(out, 0, words::number(number as usize));
-    let end = put_view(out, front, v);
-    out[end] = b'\n';
-    end + 1
+    let mut line = ArrayString::<LINE>::new();
+    push_number(&mut line, usize::from(number));
+    let rooms = &t.rooms[..usize::from(t.n).min(ROOMS)];
+    push_rooms(&mut line, rooms, t.count);
+    line.push_str("\n");
+    let text = line.as_str().as_bytes();
+    out[..text.len()].copy_from_slice(text);
+    text.len()
 }

@@ -1,6 +1,6 @@
 use mathlib.Core.Path.{◌≡◌}
 use mathlib.Core.Bool.{Bool, true}
-use Prim.Native.Nat.{ℕ, ◌≤◌, ◌-◌}
+use Prim.Native.Nat.{ℕ}
 use lib.Dec.{ltb}
 use Rattle.base.specs.Below.{all_below}
 use Rattle.table.specs.declared.Table.{Table}
@@ -12,8 +12,5 @@ use Rattle.plan.proofs.ask.Given as goal
 abbrev pub fresh : Table → ℕ → Bool
 fresh t c = ltb (room_at t c).counter worn_limit
 
-abbrev pub invariant-loop-i : goal.invariant-loop-i
-invariant-loop-i l = (l.i ≤ l.n) × (all_below l.i (fresh l.t) ≡ true)
-
-abbrev pub decreases-loop-i : goal.decreases-loop-i
-decreases-loop-i l = l.n - l.i
+abbrev pub invariant-loop-r : goal.invariant-loop-r
+invariant-loop-r l = all_below l.r-index (fresh l.fn.t) ≡ true

@@ -1,21 +1,13 @@
-use Rattle.records.proofs.Laws.{room-past, room-toward, room-token, room-holds, room-owes, room-entries}
 use borrow.Author.Rules.{rules}
+use Rattle.std.proofs.Common.{◌≡◌, ◌∙◌, length}
+use borrow.Author.Tests.{le-ltb}
+use Rattle.records.specs.Parts.{room_place_fine}
+use Rattle.records.proofs.Laws.{blank-is}
 use Rattle.records.proofs.room_fine.Goals as goal
 
 pub returns-then-c-n : goal.returns-then-c-n
-returns-then-c-n c = search (rules, room-past)
-
-pub returns-then-r-n : goal.returns-then-r-n
-returns-then-r-n c = search (rules, room-toward)
-
-pub returns-then-r-c : goal.returns-then-r-c
-returns-then-r-c c = search (rules, room-token)
-
-pub returns-then-not-holds_rightly : goal.returns-then-not-holds_rightly
-returns-then-not-holds_rightly c = search (rules, room-holds)
-
-pub returns-then-not-owes_rightly : goal.returns-then-not-owes_rightly
-returns-then-not-owes_rightly c = search (rules, room-owes)
-
-pub returns : goal.returns
-returns c = search (rules, room-entries)
+unfolding room_place_fine
+returns-then-c-n c =
+    let s = c.args in
+    let long : length s.r.entries ≡ 16 = search rules in
+    simp (le-ltb s.c s.n c.if-c-n.true) (rw c.blank.ensures at c.eq.ensures ∙ blank-is s.r long)

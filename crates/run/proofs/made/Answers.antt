@@ -1,13 +1,13 @@
-use native.Mathlib.Omega.{arith}
-use borrow.Author.Rules.{rules}
-use Rattle.run.proofs.Events.{before-none, before_more, before-all}
+use Rattle.std.proofs.Common.{rules}
+use Rattle.std.proofs.lemmas.Iterator.Consumers.{fold_from_yields_List, YieldsList-from_first}
+use Rattle.rules.specs.Step.{step_of}
+use Rattle.run.specs.Runs.{events_of}
+use Rattle.run.proofs.Events.{runs-fold}
 use Rattle.run.proofs.made.Goals as goal
 
-pub loop-at-init : goal.loop-at-init
-loop-at-init c = search (rules, before-none)
-
-pub loop-at-preserved : goal.loop-at-preserved
-loop-at-preserved c = before_more _ _ _ _ c.loop-at.invariant (omega arith) _ c.event_at.ensures _ c.step-a.ensures
-
 pub returns : goal.returns
-returns c = before-all _ _ _ _ c.loop-at.invariant (omega arith)
+returns c =
+    let xs = events_of c.args.events.now in
+    runs-fold c.args.t xs _
+    (fold_from_yields_List _ (λ t e. (step_of t e).table) _ _ c.fold.ensures.ran
+    (YieldsList-from_first (λ e. e) (λ s. events_of s.0.now) xs cc) (λ t e u q k. search rules))

@@ -1,9 +1,11 @@
-use borrow.Author.Rules.{rules}
+use Rattle.std.proofs.Common.{rules, ◌≡◌, Err}
 use Rattle.run.proofs.Runs.{run-refused, run-made}
 use Rattle.run.proofs.run.Goals as goal
 
-pub returns-in-1-to-255 : goal.returns-in-1-to-255
-returns-in-1-to-255 c = search (rules, run-refused)
+pub returns-in_err-fresh : goal.returns-in_err-fresh
+returns-in_err-fresh c =
+    let same : c.from_residual.result ≡ Err c.in_err-fresh.field-0.0 = search rules in
+    rw same (run-refused _ _ _ c.in_err-fresh.ensures)
 
 pub returns : goal.returns
-returns c = search (rules, run-made)
+returns c = run-made _ _ _ c.in_ok-fresh.ensures _ c.made.ensures

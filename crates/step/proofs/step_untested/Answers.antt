@@ -1,30 +1,48 @@
+use Rattle.std.proofs.Common.{refl}
+use Rattle.std.proofs.lemmas.Result.{err_from_is_err_and}
+use Rattle.plan.specs.Plans.{refused_plan}
+use Rattle.table.specs.Numbers.{number_of}
+use Rattle.table.proofs.Known.{number-some}
+use Rattle.step.proofs.Outcomes.{ending-own}
 use Rattle.step.proofs.Ends.{plan-sizes, step_fits, told-refused, told-made, step-refused, step-made}
-use borrow.Author.Rules.{rules}
 use Rattle.step.proofs.step_untested.Goals as goal
 
-pub ending-number-requires : goal.ending-number-requires
-ending-number-requires c = search (rules, plan-sizes)
+pub returns-in_err-p : goal.returns-in_err-p
+returns-in_err-p c =
+    let a = c.args in
+    let p = err_from_is_err_and c.from_residual.result c.from_residual.ensures.1 in
+    let some = number-some c.in_err-p.field-0.0 in
+    let own = ending-own a.t.count (refused_plan (number_of c.in_err-p.field-0.0)) some in
+    rw (p.1, p.2)
+    (record {
+      as_told = told-refused a.t c.well_formed.0 a.e a.formed _ c.in_err-p.ensures refl _ own some;
+      told_rightly = λ right. step-refused a.t c.well_formed.0 a.e a.formed _ c.in_err-p.ensures refl _ own right some;
+    })
 
-pub returns-in-1-to-255 : goal.returns-in-1-to-255
-returns-in-1-to-255 c =
-    let s = c in
-    let plan = c.planned-p in
-    let number = c.ending-number in record {
-      as_told = told-refused s.args.t s.well_formed.0 s.args.e s.args.formed _ plan.type_inv plan.ensures _ number.ensures (search rules);
-      told_rightly = λ right. step-refused s.args.t s.well_formed.0 s.args.e s.args.formed _ plan.type_inv plan.ensures _ number.ensures right (search rules);
-    }
+pub returns-in_err-fits : goal.returns-in_err-fits
+returns-in_err-fits c =
+    let a = c.args in
+    let p = err_from_is_err_and c.from_residual-in_err-fits.result c.from_residual-in_err-fits.ensures.1 in
+    let some = number-some c.in_err-fits.field-0.0 in
+    let out = c.fits.ensures.outbox in
+    rw (p.1, p.2)
+    (record {
+      as_told = told-refused a.t c.well_formed.0 a.e a.formed _ c.in_ok-p.ensures out _ c.in_err-fits.ensures.ending some;
+      told_rightly = λ right. step-refused a.t c.well_formed.0 a.e a.formed _ c.in_ok-p.ensures out _ c.in_err-fits.ensures.ending right some;
+    })
 
-pub written-after-requires : goal.written-after-requires
-written-after-requires c =
-    let s = c in
-    step_fits s.args.t s.well_formed.0 s.args.e s.args.formed _ c.planned-p.type_inv c.planned-p.ensures _ c.ending-number.ensures c.in-0.is
+pub fits-requires : goal.fits-requires
+fits-requires c = plan-sizes c.args.t c.well_formed.0 c.args.e c.args.formed _ c.in_ok-p.ensures
+
+pub written-requires : goal.written-requires
+written-requires c =
+    step_fits c.args.t c.well_formed.0 c.args.e c.args.formed _ c.in_ok-p.ensures c.fits.ensures.outbox _ c.in_ok-fits.ensures.ending refl
 
 pub returns : goal.returns
 returns c =
-    let s = c in
-    let plan = c.planned-p in
-    let number = c.ending-number in
-    let done = c.in-0.is in record {
-      as_told = told-made s.args.t s.well_formed.0 s.args.e s.args.formed _ plan.type_inv plan.ensures _ number.ensures done _ c.written-after.ensures;
-      told_rightly = λ right. step-made s.args.t s.well_formed.0 s.args.e s.args.formed _ plan.type_inv plan.ensures _ number.ensures right done _ c.written-after.ensures;
+    let a = c.args in
+    let out = c.fits.ensures.outbox in
+    record {
+      as_told = told-made a.t c.well_formed.0 a.e a.formed _ c.in_ok-p.ensures out _ c.in_ok-fits.ensures.ending refl _ c.written.ensures;
+      told_rightly = λ right. step-made a.t c.well_formed.0 a.e a.formed _ c.in_ok-p.ensures out _ c.in_ok-fits.ensures.ending right refl _ c.written.ensures;
     }

@@ -1,62 +1,58 @@
-use borrow.Author.Rules.{rules}
 use native.Mathlib.Omega.{arith}
-use mathlib.Core.Path.{◌≡◌, refl, sym, ◌∙◌}
-use Prim.Native.Nat.{◌<◌}
-use lib.ListN.{get_or}
-use Rattle.base.specs.Below.{all_more}
+use Rattle.std.proofs.Common.{◌<◌, refl, sym, ◌∙◌, get_or, take, take_all, length-take, eqb}
+use Rattle.std.proofs.lemmas.List.{get_or-replicate}
+use Rattle.std.proofs.lemmas.Grind.{common_steps}
+use Rattle.std.proofs.lemmas.List.Folds.{list_all_at}
+use Rattle.base.specs.Lists.{count-le, total-none, total-more}
+use Rattle.base.specs.Sums.{one}
 use Rattle.room.specs.Limits.{room_limit}
-use Rattle.table.specs.Limits.{queue_limit}
+use Rattle.table.specs.declared.Queued.{Queued}
 use Rattle.table.specs.Tables.{no_queued}
-use Rattle.formed.proofs.Counted.{counted-raised, counted-kept}
-use Rattle.formed.proofs.queue.Times.{naming-none, naming-used, naming-unused, naming-low, names-low, named-ill, named-all}
-use Rattle.formed.proofs.queue.look_over.Invariants.{test}
-use Rattle.formed.proofs.queue.look_over.Goals.{then-i-queued, else-i-queued}
+use Rattle.table.specs.Formed.{queued_fine}
+use Rattle.formed.specs.Standings.{rooms_of}
+use Rattle.formed.specs.Names.{named_in}
+use Rattle.formed.proofs.Counted.{counted-raised, counted-is, places_naming}
 use Rattle.formed.proofs.queue.look_over.Goals as goal
 
-pub loop-i-init : goal.loop-i-init
-loop-i-init c = (search rules, refl, naming-none _ _)
+pub loop-q-init : goal.loop-q-init
+loop-q-init c = record {
+  fine = refl;
+  times = record { long = refl; at = λ j l. get_or-replicate room_limit j 0 0 l ∙ sym (total-none (λ q. one (eqb q.room j)) c.args.queue.now) };
+}
 
 pub returns-then-not-place_fine : goal.returns-then-not-place_fine
+unfolding named_in
 returns-then-not-place_fine c =
-    named-ill _ _ _ _ c.loop-i.i (omega arith) (sym c.place_fine.ensures ∙ c.if-not-place_fine.true)
-
--- a place that is fine and in use names a room below the limit
-pub bounds-times-at : goal.bounds-times-at
-bounds-times-at c =
-    names-low _ c.args.rooms c.args.queue c.args.queued c.well_formed.1.0.1.0.1 c.loop-i.i c.if-i-queued.true (sym c.place_fine.ensures ∙ c.if-not-place_fine.false)
+    let s = c.args in
+    let st = s.standings.now in
+    let failed = sym c.place_fine.ensures.fine ∙ c.if-not-place_fine.true in
+    rw (list_all_at (queued_fine st.n (rooms_of st.rooms)) s.queue.now c.loop-q.q-index no_queued (omega arith) failed)
 
 pub overflow_add-times : goal.overflow_add-times
 overflow_add-times c =
     let s = c.args in
-    let k = c.loop-i in
-    let at = (get_or s.queue k.i no_queued).room in
-    let low : at < room_limit =
-    names-low _ c.args.rooms c.args.queue c.args.queued c.well_formed.1.0.1.0.1 c.loop-i.i c.if-i-queued.true (sym c.place_fine.ensures ∙ c.if-not-place_fine.false) in
-    omega (arith, k.invariant.2.at at low, naming-low s.queue s.queued k.i at)
+    let k = c.loop-q in
+    let at = (get_or s.queue.now k.q-index no_queued).room in
+    let low : at < room_limit = c.place_fine.ensures.low c.if-not-place_fine.false in
+    let so-far = take k.q-index s.queue.now in
+    rw c.from.ensures
+    (omega (arith, k.invariant.times.at at low, count-le (λ (q : Queued). eqb q.room at) so-far, length-take k.q-index s.queue.now))
 
-pub bounds-times-at-then-i-queued : goal.bounds-times-at-then-i-queued
-bounds-times-at-then-i-queued c =
-    names-low _ c.args.rooms c.args.queue c.args.queued c.well_formed.1.0.1.0.1 c.loop-i.i c.if-i-queued.true (sym c.place_fine.ensures ∙ c.if-not-place_fine.false)
-
-pub loop-i-preserved : goal.loop-i-preserved
-loop-i-preserved c =
-    let b = c in
-    let k = c.loop-i in
-    let fine = sym c.place_fine.ensures ∙ c.if-not-place_fine.false in
-    let long = b.well_formed.1.1.0.1.0.1 in
-    let low = names-low b.args.n b.args.rooms b.args.queue b.args.queued b.well_formed.1.0.1.0.1 k.i in
-    let used = naming-used b.args.queue b.args.queued k.i (omega arith) in
-    let unused = naming-unused b.args.queue b.args.queued k.i (omega arith) in (
-      omega arith,
-      all_more (test b.args.n b.args.rooms b.args.queue b.args.queued) k.i k.invariant.1 fine,
-      (elim c.if-i-queued.branch [
-        | then-i-queued w ↦ counted-raised _ _ _ k.invariant.2 _ (used w.if-i-queued.true) _ (low w.if-i-queued.true fine) w.times-is
-        | else-i-queued w ↦ counted-kept _ _ _ k.invariant.2 room_limit (unused w.if-i-queued.false) _ (omega arith) w.times-is
-      ]),
-    )
+pub loop-q-preserved : goal.loop-q-preserved
+loop-q-preserved c =
+    let s = c.args in
+    let k = c.loop-q in
+    let at = (get_or s.queue.now k.q-index no_queued).room in
+    record {
+      fine = grind (arith, common_steps);
+      times = counted-raised _ _ _ k.invariant.times _ at (c.place_fine.ensures.low c.if-not-place_fine.false)
+          (λ j l. total-more (λ (q : Queued). one (eqb q.room j)) s.queue.now k.q-index no_queued (omega arith)) (rw c.from.ensures);
+    }
 
 pub returns : goal.returns
+unfolding named_in
 returns c =
-    let k = c.loop-i in
-    let e : k.i ≡ queue_limit = omega arith in
-    named-all _ _ _ _ c.well_formed.1.1.0.1.0.1 (rw e at k.invariant.1) _ (rw e at k.invariant.2)
+    let s = c.args in
+    let k = c.loop-q in
+    let e = take_all k.q-index s.queue.now (omega arith) in
+    rw (rw e at k.invariant.fine, counted-is (places_naming s.queue.now) k.times (rw e at k.invariant.times))

@@ -5,5 +5,5 @@ use Rattle.room.proofs.Room.take_token.Goals as goal
 pub returns-then-self-link : goal.returns-then-self-link
 returns-then-self-link c = search (rules, tokened-lifted)
 
-pub returns : goal.returns
-returns c = search (rules, tokened-kept)
+pub returns-else-self-link : goal.returns-else-self-link
+returns-else-self-link c = search (rules, tokened-kept)

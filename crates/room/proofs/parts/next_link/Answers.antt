@@ -1,9 +1,5 @@
-use Rattle.room.proofs.Laws.{next_more, next_last}
-use borrow.Author.Rules.{rules}
+use Rattle.room.proofs.Laws.{next-saturates}
 use Rattle.room.proofs.parts.next_link.Goals as goal
 
-pub returns-then-counter-lt-LAST_LINK : goal.returns-then-counter-lt-LAST_LINK
-returns-then-counter-lt-LAST_LINK c = search (rules, next_more)
-
-pub returns-else-counter-lt-LAST_LINK : goal.returns-else-counter-lt-LAST_LINK
-returns-else-counter-lt-LAST_LINK c = search (rules, next_last)
+pub returns : goal.returns
+returns c = next-saturates _ _ c.saturating_add.ensures

@@ -1,12 +1,12 @@
-use borrow.Author.Rules.{rules}
-use Rattle.run.proofs.Drains.{after-made, after-below, after-above}
+use Rattle.std.proofs.Common.{rules}
+use Rattle.run.proofs.Drains.{after-unknown, after-other, after-made}
 use Rattle.run.proofs.draining.after.Goals as goal
 
-pub returns-in-2-to-3 : goal.returns-in-2-to-3
-returns-in-2-to-3 c = search (rules, after-made)
+pub returns-in_err-ok : goal.returns-in_err-ok
+returns-in_err-ok c = search (rules, after-unknown)
 
-pub returns-in_default : goal.returns-in_default
-returns-in_default c = search (rules, after-below)
+pub returns-in-HandBack : goal.returns-in-HandBack
+returns-in-HandBack c = search (rules, after-made)
 
-pub returns-in_default-2 : goal.returns-in_default-2
-returns-in_default-2 c = search (rules, after-above)
+pub returns-in-Ask : goal.returns-in-Ask
+returns-in-Ask c = search (rules, after-other)

@@ -1,10 +1,8 @@
-use Prim.Native.Nat.{◌-◌}
-use lib.ListN.{length}
+use Rattle.run.specs.Runs.{events_of}
 use Rattle.run.proofs.Drains.{Draining}
 use Rattle.run.proofs.draining.drain.Given as goal
 
-abbrev pub invariant-loop-at : goal.invariant-loop-at
-invariant-loop-at l = Draining l.initial.u l.events l.u l.steps l.at
-
-abbrev pub decreases-loop-at : goal.decreases-loop-at
-decreases-loop-at l = length l.events - l.at
+abbrev pub invariant-loop-e : goal.invariant-loop-e
+invariant-loop-e l =
+    (goal.iterator-loop-e).can_next l.e-iterator × (goal.iterator-loop-e).is_finite l.e-iterator
+    × Draining l.fn.t (events_of l.fn.events) l.table l.steps (events_of l.e-iterator.0.now)

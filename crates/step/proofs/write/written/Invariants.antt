@@ -1,11 +1,7 @@
-use Prim.Native.Nat.{◌≤◌, ◌-◌}
 use lib.ListN.{take}
 use Rattle.step.proofs.Splice.{target, Mid}
 use Rattle.step.proofs.write.written.Given as goal
 
 abbrev pub invariant-loop-i : goal.invariant-loop-i
 invariant-loop-i l =
-    (l.initial.i ≤ l.i) × (l.i ≤ l.end) × Mid l.initial.u (target (take l.old l.initial.u.wires) l.initial.i l.gap (take l.d.sent l.d.out)) l.i l.u
-
-abbrev pub decreases-loop-i : goal.decreases-loop-i
-decreases-loop-i l = l.end - l.i
+    Mid l.initial.u (target (take l.old l.initial.u.wires) l.initial.i l.gap (take l.d.sent l.d.out)) l.i l.u
