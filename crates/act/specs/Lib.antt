@@ -1,3 +1,3 @@
 pub mod Desk
 pub mod Acts
-pub mod Done
+pub mod Start

@@ -3,7 +3,7 @@
 
 ghost use Rattle.std.specs.Prelude.{◌≡◌};
 ghost use Rattle.rules.specs.Rules as rules;
-ghost use Rattle.act.specs.Done.{start_of};
+ghost use Rattle.act.specs.Start.{start_of};
 ghost use Rattle.act.specs.Acts.{lends_on};
 
 use crate::Start;
@@ -46,7 +46,7 @@ fn ask_without(s: Start, m: u8) -> Desk
     desk
 }
 
-// ASK.
+// ASK: the room asks for m.
 pub fn ask(s: Start, m: u8) -> Desk
     ensures { result ≡ rules.ask (start_of s) m }
 {
@@ -57,7 +57,7 @@ pub fn ask(s: Start, m: u8) -> Desk
     }
 }
 
-// UPGRADE.
+// UPGRADE: the room's U becomes a W, or waits to.
 pub fn upgrade(s: Start) -> Desk
     ensures { result ≡ rules.upgrade (start_of s) }
 {
@@ -70,7 +70,7 @@ pub fn upgrade(s: Start) -> Desk
     desk
 }
 
-// HANDBACK.
+// HANDBACK: the room holds nothing any more.
 pub fn hand_back(s: Start) -> Desk
     ensures { result ≡ rules.hand_back (start_of s) }
 {
@@ -111,7 +111,7 @@ fn take_request(s: Start, o: u8, m: u8, idle: bool) -> Desk
     desk
 }
 
-// The message taken from a arrives.
+// DELIVER: the room takes a message from room a.
 pub fn receive(s: Start, a: u8, message: Message) -> Desk
     ensures { result ≡ rules.receive (start_of s) a message }
 {

@@ -1,5 +1,5 @@
 // A desk: what one room does in a step, with its record, the queue and the messages that it sends.
-// The table is written only once the step is known to be made. The module is private: only proved callers use it.
+// The table is written only once the step is known to be made. Outside this crate a desk is read; only proved callers in it change one.
 #![tactic(auto, unfolding(rules::specs::Rules::hold, rules::specs::Rules::want, rules::specs::Rules::lend, rules::specs::Rules::pass, rules::specs::Rules::settle, rules::specs::Rules::settle_or_serve, rules::specs::Rules::upgrade_waits, rules::specs::Rules::upgraded, rules::specs::Work::send, rules::specs::Work::join, rules::specs::Work::send_out))]
 
 ghost use Rattle.std.specs.Prelude.{◌≡◌};
@@ -39,7 +39,7 @@ impl Model for Desk {
 impl Desk {
     // A message to room y, after those sent already.
     // Only for proved callers in this crate: a place is left for it.
-    pub fn post(&mut self, y: u8, message: Message)
+    pub(crate) fn post(&mut self, y: u8, message: Message)
         requires { HasRoom self.old 1 }
         ensures { self.new ≡ work.send self.old y message }
     {
@@ -52,7 +52,7 @@ impl Desk {
 
     // Room y joins the end of the queue.
     // Only for proved callers in this crate: a place is left for it.
-    pub fn join(&mut self, y: u8, m: u8)
+    pub(crate) fn join(&mut self, y: u8, m: u8)
         requires { HasRoom self.old 2 }
         ensures { self.new ≡ work.join self.old y m }
     {
@@ -61,7 +61,7 @@ impl Desk {
 
     // The changed record, and what it sends.
     // Only for proved callers in this crate: a place is left for a message.
-    pub fn change(&mut self, c: Changed)
+    pub(crate) fn change(&mut self, c: Changed)
         requires { HasRoom self.old 1 }
         ensures { self.new ≡ work.change self.old c }
     {
@@ -72,7 +72,7 @@ impl Desk {
     }
 
     // The room holds m, and wants nothing.
-    pub fn hold(&mut self, m: u8)
+    pub(crate) fn hold(&mut self, m: u8)
         ensures { self.new ≡ rules.hold self.old m }
     {
         self.room.held = m;
@@ -80,7 +80,7 @@ impl Desk {
     }
 
     // The room wants m.
-    pub fn want(&mut self, m: u8)
+    pub(crate) fn want(&mut self, m: u8)
         ensures { self.new ≡ rules.want self.old m }
     {
         self.room.wanted = m;
@@ -88,7 +88,7 @@ impl Desk {
 
     // Lend m to y.
     // Only for proved callers in this crate: a place is left for the GRANT.
-    pub fn lend(&mut self, y: u8, m: u8)
+    pub(crate) fn lend(&mut self, y: u8, m: u8)
         requires { HasRoom self.old 1 }
         ensures { self.new ≡ rules.lend self.old y m }
     {
@@ -124,7 +124,7 @@ impl Desk {
 
     // Without the token: what is owed falls to what is owned.
     // Only for proved callers in this crate: a place is left for the REDUCE.
-    pub fn settle(&mut self)
+    pub(crate) fn settle(&mut self)
         requires { HasRoom self.old 1 }
         ensures { self.new ≡ rules.settle self.old }
     {
@@ -148,7 +148,7 @@ impl Desk {
     }
 
     // With the token: a waiting upgrade, then the queue, while no upgrade waits and its head agrees with what the room owns.
-    pub fn serve(&mut self)
+    pub(crate) fn serve(&mut self)
         ensures { self.new ≡ rules.serve self.old }
     {
         self.finish_upgrade();
@@ -171,7 +171,7 @@ impl Desk {
 
     // What a room whose modes have changed does next.
     // Only for proved callers in this crate: a place is left for a message.
-    pub fn settle_or_serve(&mut self)
+    pub(crate) fn settle_or_serve(&mut self)
         requires { HasRoom self.old 1 }
         ensures { self.new ≡ rules.settle_or_serve self.old }
     {

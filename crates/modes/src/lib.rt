@@ -5,7 +5,7 @@ ghost use Rattle.std.specs.Prelude.{◌≡◌};
 ghost use Rattle.modes.specs.Codes.{is_code};
 ghost use Rattle.modes.specs.Modes.{agrees, can_lend, is_stronger};
 
-// The codes of the modes.
+// The codes of the modes. Numbers and no enum: document 01 has them so, and each of the 256 gets an answer, by `match` with ranges.
 pub const NONE: u8 = 0;
 
 pub const IR: u8 = 1;

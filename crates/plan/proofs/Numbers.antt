@@ -17,11 +17,11 @@ use Rattle.room.specs.Limits.{room_limit}
 use Rattle.rules.specs.declared.Event.{Event}
 use Rattle.rules.specs.Limits.{busy_limit, worn_limit}
 use Rattle.rules.specs.Events.{ASK, UPGRADE, HANDBACK, DELIVER}
+use Rattle.rules.specs.Work.{Work}
 use Rattle.rules.specs.Rules.{ask, upgrade, hand_back, receive}
 use Rattle.rules.specs.Refusals.{first, refusal_as, is_found, any_worn}
-use Rattle.act.specs.declared.Done.{Done}
 use Rattle.act.specs.declared.Start.{Start}
-use Rattle.act.specs.Done.{start_of, done_of}
+use Rattle.act.specs.Start.{start_of}
 use Rattle.plan.specs.Plans.{Planned, start_at, made_plan, refused_plan, taking, doing, placed, plan_as, Begins}
 
 -- the kinds that there are
@@ -104,7 +104,7 @@ module _ (t : Table) (e : Event) where
                 simp (b.kind, lt-leb _ _ b.room, le-leb 1 _ some, le-leb _ 5 code, eq-eqb _ _ free, eq-eqb _ _ empty, lt-leb _ _ few, h)
 
     pub ask-is : refusal_as true t e ≡ 0 → (s : Start) → s ≡ start_at e.room (room_at t e.room) t.queue t.queued
-        → (d : Done) → d ≡ done_of (ask (start_of s) e.mode) → made_plan e.room t.count 0 d ≡ plan_as true t e
+        → (d : Work) → d ≡ ask (start_of s) e.mode → made_plan e.room None d ≡ plan_as true t e
     unfolding plan_as doing
     ask-is h s i d o = sym (simp (h, b.kind, o, i))
 
@@ -119,7 +119,7 @@ module _ (t : Table) (e : Event) where
       upgrade-other h = simp (b.kind, lt-leb _ _ b.room, eq-eqb _ _ free, ne_eqb _ _ h)
 
       pub upgrade-is : (room_at t e.room).held ≡ 3 → (s : Start) → s ≡ start_at e.room (room_at t e.room) t.queue t.queued
-          → (d : Done) → d ≡ done_of (upgrade (start_of s)) → made_plan e.room t.count 0 d ≡ plan_as true t e
+          → (d : Work) → d ≡ upgrade (start_of s) → made_plan e.room None d ≡ plan_as true t e
       unfolding plan_as doing refusal_as first
       upgrade-is h s i d o = sym (simp (b.kind, lt-leb _ _ b.room, eq-eqb _ _ free, eq-eqb _ _ h, o, i))
 
@@ -134,7 +134,7 @@ module _ (t : Table) (e : Event) where
       back-empty h = simp (b.kind, lt-leb _ _ b.room, eq-eqb _ _ free, eq-eqb _ _ h)
 
       pub back_is : ((room_at t e.room).held ≡ 0 → ⊥) → (s : Start) → s ≡ start_at e.room (room_at t e.room) t.queue t.queued
-          → (d : Done) → d ≡ done_of (hand_back (start_of s)) → made_plan e.room t.count 0 d ≡ plan_as true t e
+          → (d : Work) → d ≡ hand_back (start_of s) → made_plan e.room None d ≡ plan_as true t e
       unfolding plan_as doing refusal_as first
       back_is h s i d o = sym (simp (b.kind, lt-leb _ _ b.room, eq-eqb _ _ free, ne_eqb _ _ h, o, i))
 
@@ -149,6 +149,6 @@ module _ (t : Table) (e : Event) where
       deliver-empty h = simp (b.kind, lt-leb _ _ b.room, lt-leb _ _ near, sym l ∙ h)
 
       pub deliver-is : (j : ℕ) (x : Message) → r ≡ Some (found_at j x) → (s : Start) → s ≡ start_at e.other (room_at t e.other) t.queue t.queued
-          → (d : Done) → d ≡ done_of (receive (start_of s) e.room x) → made_plan e.other j 1 d ≡ plan_as true t e
+          → (d : Work) → d ≡ receive (start_of s) e.room x → made_plan e.other (Some j) d ≡ plan_as true t e
       unfolding plan_as doing taking refusal_as first is_found
       deliver-is j x h s i d o = sym (simp (b.kind, lt-leb _ _ b.room, lt-leb _ _ near, sym l ∙ h, o, i))

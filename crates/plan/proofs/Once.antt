@@ -7,7 +7,7 @@ use Rattle.plan.specs.declared.Plan.{Plan}
 use Rattle.plan.specs.Plans.{Planned, planned_in}
 
 pub planned-once : (r s : Result Plan Refusal) → planned_in r ≡ planned_in s → r ≡ s
-planned-once (Ok p) (Ok q) e = ap (λ (x : Planned). Ok (record { me = x.me; place = x.place; gap = x.gap; done = x.done })) e
+planned-once (Ok p) (Ok q) e = ap (λ (x : Planned). Ok (record { me = x.me; taken = x.taken; done = x.done })) e
 planned-once (Ok p) (Err b) e = absurd (number-some b (sym (ap (λ (x : Planned). x.«number») e)))
 planned-once (Err a) (Ok q) e = absurd (number-some a (ap (λ (x : Planned). x.«number») e))
 planned-once (Err a) (Err b) e = ap (λ (x : Refusal). Err x) (one-refusal a b (ap (λ (x : Planned). x.«number») e))

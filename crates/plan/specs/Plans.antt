@@ -1,5 +1,5 @@
 -- A step as it is planned: a refusal, or what a room has done and which message it took.
-use Rattle.std.specs.Prelude.{ℕ, ◌≤◌, ◌<◌, ◌≡◌, Bool, false, ◌&&◌, List, replicate, leb, eqb, if◌then◌else◌, Option, Some, None, Result, Ok, Err}
+use Rattle.std.specs.Prelude.{ℕ, ◌≤◌, ◌<◌, ◌≡◌, Bool, false, ◌&&◌, List, [], leb, eqb, if◌then◌else◌, Option, Some, None, Result, Ok, Err}
 use Rattle.room.specs.declared.Room.{Room}
 use Rattle.room.specs.Limits.{room_limit}
 use Rattle.room.specs.Record.{blank_room}
@@ -8,18 +8,14 @@ use Rattle.table.specs.declared.Table.{Table}
 use Rattle.table.specs.declared.Found.{Found}
 use Rattle.table.specs.declared.refusal.Refusal.{Refusal}
 use Rattle.table.specs.Numbers.{DONE, EMPTY, number_of}
-use Rattle.table.specs.Tables.{no_wire, no_queued}
 use Rattle.table.specs.Oldest.{oldest_of}
 use Rattle.table.specs.Limits.{wire_limit}
 use Rattle.rules.specs.declared.Event.{Event}
 use Rattle.rules.specs.Events.{is_ask, is_upgrade, is_hand_back}
-use Rattle.rules.specs.Work.{work_at}
+use Rattle.rules.specs.Work.{Work, work_at}
 use Rattle.rules.specs.Rules.{ask, upgrade, hand_back, receive}
 use Rattle.rules.specs.Refusals.{refusal_as}
 use Rattle.act.specs.declared.Start.{Start}
-use Rattle.act.specs.declared.Done.{Done}
-use Rattle.act.specs.Desk.{place_limit, out_limit}
-use Rattle.act.specs.Done.{done_of}
 use Rattle.plan.specs.declared.Plan.{Plan}
 
 -- a room before it acts, and the queue
@@ -30,24 +26,22 @@ start_at me room queue queued = record { me = me; room = room; queue = queue; qu
 pub record Planned : Type 0 where
   pub «number» : ℕ
   pub me : ℕ
-  pub place : ℕ
-  pub gap : ℕ
-  pub done : Done
+  pub taken : Option ℕ
+  pub done : Work
 
-abbrev pub made_plan : ℕ → ℕ → ℕ → Done → Planned
-made_plan me place gap done = record { «number» = DONE; me = me; place = place; gap = gap; done = done }
+abbrev pub made_plan : ℕ → Option ℕ → Work → Planned
+made_plan me taken done = record { «number» = DONE; me = me; taken = taken; done = done }
 
 -- nothing done
-abbrev pub idle : Done
-idle =
-    record { room = blank_room; queue = replicate place_limit no_queued; queued = 0; out = replicate out_limit no_wire; sent = 0; worn = false }
+abbrev pub idle : Work
+idle = record { me = 0; room = blank_room; queue = []; sent = []; worn = false }
 
 abbrev pub refused_plan : ℕ → Planned
-refused_plan k = record { «number» = k; me = 0; place = 0; gap = 0; done = idle }
+refused_plan k = record { «number» = k; me = 0; taken = None; done = idle }
 
 -- a plan that is made
 abbrev pub made_of : Plan → Planned
-made_of p = made_plan p.me p.place p.gap p.done
+made_of p = made_plan p.me p.taken p.done
 
 -- what a result says
 abbrev pub planned_in : Result Plan Refusal → Planned
@@ -57,14 +51,14 @@ planned_in (Err refusal) = refused_plan (number_of refusal)
 -- the oldest message is taken out, and the receiver acts on it
 unfoldable pub taking : Table → ℕ → ℕ → Option Found → Planned
 taking t a b None = refused_plan EMPTY
-taking t a b (Some found) = made_plan b found.place 1 (done_of (receive (work_at t b) a found.message))
+taking t a b (Some found) = made_plan b (Some found.place) (receive (work_at t b) a found.message)
 
 -- what is done where no refusal applies: the other events take no message out
 unfoldable pub doing : Table → Event → Planned
 doing t e =
-    if is_ask e then made_plan e.room t.count 0 (done_of (ask (work_at t e.room) e.mode))
-    else (if is_upgrade e then made_plan e.room t.count 0 (done_of (upgrade (work_at t e.room)))
-    else (if is_hand_back e then made_plan e.room t.count 0 (done_of (hand_back (work_at t e.room)))
+    if is_ask e then made_plan e.room None (ask (work_at t e.room) e.mode)
+    else (if is_upgrade e then made_plan e.room None (upgrade (work_at t e.room))
+    else (if is_hand_back e then made_plan e.room None (hand_back (work_at t e.room))
     else taking t e.room e.other (oldest_of t e.room e.other)))
 
 -- the arrays have a place for each room and each message that is in use

@@ -8,7 +8,7 @@ ghost use Rattle.table.specs.Tables.{room_at};
 ghost use Rattle.rules.specs.Events as events;
 ghost use Rattle.plan.specs.Plans.{start_at, planned_in, placed, plan_as, Begins};
 
-use act::{Done, Start};
+use act::{Desk, Start};
 use room::MOST_ROOMS;
 use rules::{Event, Kind};
 use table::{Refusal, Table, WIRES};
@@ -18,13 +18,12 @@ pub const BUSY_MESSAGES: usize = 96;
 // and from this counter on.
 pub const WORN_COUNTER: u32 = 4294967000;
 
-// What room me has done, with gap many messages at place taken out.
-#[derive(Clone, Copy)]
+// What room me has done, and at which place it took a message from the wires, if it took one.
+#[derive(Drop)]
 pub struct Plan {
     pub me: u8,
-    pub place: usize,
-    pub gap: usize,
-    pub done: Done,
+    pub taken: Option<usize>,
+    pub done: Desk,
 }
 
 // Room x before it acts, and the queue.
@@ -42,7 +41,8 @@ fn start(t: Table, x: u8) -> Start
     }
 }
 
-// ASK.
+// ASK. Each of the four events asks the same of its own kind (`Begins`): a struct that carries it would hold the table once more. And each
+// tests the room by its own `match`, as document 01 has decisions on modes: a function for the one test that three share would be no shorter.
 // Only for planned, which is proved: the kind is known and the table has the room.
 fn ask(t: Table, e: Event) -> Result<Plan, Refusal>
     requires { Begins t e events.ASK }
@@ -72,8 +72,7 @@ fn ask(t: Table, e: Event) -> Result<Plan, Refusal>
     let done = act::ask(start(t, e.room), e.mode);
     Ok(Plan {
         me: e.room,
-        place: t.count,
-        gap: 0,
+        taken: None,
         done,
     })
 }
@@ -96,8 +95,7 @@ fn upgrade(t: Table, e: Event) -> Result<Plan, Refusal>
     let done = act::upgrade(start(t, e.room));
     Ok(Plan {
         me: e.room,
-        place: t.count,
-        gap: 0,
+        taken: None,
         done,
     })
 }
@@ -120,8 +118,7 @@ fn hand_back(t: Table, e: Event) -> Result<Plan, Refusal>
     let done = act::hand_back(start(t, e.room));
     Ok(Plan {
         me: e.room,
-        place: t.count,
-        gap: 0,
+        taken: None,
         done,
     })
 }
@@ -141,8 +138,7 @@ fn deliver(t: Table, e: Event) -> Result<Plan, Refusal>
     let done = act::receive(start(t, e.other), e.room, found.message);
     Ok(Plan {
         me: e.other,
-        place: found.place,
-        gap: 1,
+        taken: Some(found.place),
         done,
     })
 }
@@ -165,6 +161,7 @@ pub fn planned(t: Table, e: Event, formed: bool) -> Result<Plan, Refusal>
     if e.room >= t.n {
         return Err(Refusal::Room);
     }
+    // four kinds and no more: closures would only hide which is which
     match kind {
         Kind::Ask => ask(t, e),
         Kind::Upgrade => upgrade(t, e),

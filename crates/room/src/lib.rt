@@ -15,7 +15,7 @@ use parts::{entry_of, larger, next_link};
 pub const MOST_ROOMS: u8 = 16;
 // The same number as a length: of a table's records, and of a record's entries.
 pub const ROOMS: usize = MOST_ROOMS as usize;
-// In place of a lender's number: there is none.
+// In place of a lender's number: there is none. A number and no Option, as the definition `nobody` has it, and the theorems on lenders.
 pub const NOBODY: u8 = 255;
 // No link number is above this one.
 pub const LAST_LINK: u32 = 4294967295;
@@ -70,7 +70,8 @@ pub struct Lent {
     pub worn: bool,
 }
 
-// A record that has passed the token on, the owned mode that remains, and as for a loan.
+// A record that has passed the token on, the owned mode that remains, and as for a loan. Not one type with Lent, which has nothing that
+// remains: `lent` and `passed` are two rules.
 #[derive(Clone, Copy, PartialEq, Eq)]
 pub struct Passed {
     pub room: Room,

@@ -16,7 +16,7 @@ pub fn entry_of(mode: u8, link: u32) -> Entry
     }
 }
 
-// The stronger of two modes.
+// The stronger of two modes. Not `max`: how modes are ordered is only for `modes` to know.
 pub fn larger(a: u8, b: u8) -> u8
     ensures { result ≡ owning.larger a b }
 {

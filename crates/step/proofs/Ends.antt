@@ -22,13 +22,13 @@ use Rattle.table.specs.Formed.{well_formed}
 use Rattle.facts.specs.Shapes.{Shaped}
 use Rattle.rules.specs.declared.Event.{Event}
 use Rattle.rules.specs.Step.{step_of}
-use Rattle.act.specs.Desk.{out_limit}
 use Rattle.plan.specs.Plans.{Planned, placed, plan_as}
-use Rattle.step.specs.Writes.{Takes, Sized, Fits, written_of, ending_of, ends_in, step_as}
+use Rattle.step.specs.Writes.{left, Takes, Sized, Fits, written_of, ending_of, ends_in, step_as}
 use Rattle.step.proofs.Known.{shaped}
 use Rattle.step.proofs.Outcomes.{outcome-worn, outcome-full, outcome-done, ending-own, ending-worn, ending-full, ending-done}
-use Rattle.step.proofs.Sizes.{plan-sends, told-rightly, takes_of}
-use Rattle.step.proofs.Splice.{written-writes}
+use Rattle.step.proofs.Splice.{fewer}
+use Rattle.step.proofs.Sizes.{told-rightly, takes_of}
+use Rattle.step.proofs.Writes.{written-writes}
 use Rattle.step.proofs.Plans.{Made, Plans, plans-of}
 
 -- the table and the plan as the code has them
@@ -40,90 +40,87 @@ module _ (t : Table) {vs : List Val} (g : Is tables.the_row t vs) (e : Event) (f
   long : length t.wires ≡ wire_limit
   long = wires-long t g
 
-  takes : p.«number» ≡ 0 → Takes t p.me p.place p.gap
+  takes : p.«number» ≡ 0 → Takes t p.me p.taken
   takes z = takes_of t shape e (formed && placed t) (λ h. and_right formed (placed t) h) p q z
 
   -- a plan that is made takes its message from the messages that there are
   pub plan-sizes : Sized t.count p
-  plan-sizes = record { low = λ z. omega (arith, (takes z).low); high = λ z. (takes z).count }
+  plan-sizes = record { low = λ z. (takes z).low; high = λ z. (takes z).count }
 
-  -- where the outbox is as long as its type says
-  module _ (o : length p.done.out ≡ out_limit) where
-    module _ (k : ℕ) (h : k ≡ ending_of t.count p) where
-      -- a plan whose end is 0 is made, has worn nothing out and has room for what it sends
-      record Ends : Type 0 where
-        zero : p.«number» ≡ 0
-        free : p.done.worn ≡ false
-        fits : p.done.sent ≤ wire_limit - (t.count - p.gap)
+  module _ (k : ℕ) (h : k ≡ ending_of t.count p) where
+    -- a plan whose end is 0 is made, has worn nothing out and has room for what it sends
+    record Ends : Type 0 where
+      zero : p.«number» ≡ 0
+      free : p.done.worn ≡ false
+      fits : length p.done.sent ≤ wire_limit - left t.count p.taken
 
-      -- how a plan ends: a refusal of its own, WORN, FULL, or done
-      ends : k ≡ 0 → Ends
-      ends z = go (same? p.«number» 0)
-        where
-          over : p.«number» ≡ 0 → p.done.worn ≡ false → (wire_limit - (t.count - p.gap) < p.done.sent) ⊎ (p.done.sent ≤ wire_limit - (t.count - p.gap)) → Ends
-          over n f (inl b) = absurd (omega (arith, h ∙ sym (ending-full t.count p n f b)))
-          over n f (inr b) = record { zero = n; free = f; fits = b }
+    -- how a plan ends: a refusal of its own, WORN, FULL, or done
+    ends : k ≡ 0 → Ends
+    ends z = go (same? p.«number» 0)
+      where
+        over : p.«number» ≡ 0 → p.done.worn ≡ false → (wire_limit - left t.count p.taken < length p.done.sent) ⊎ (length p.done.sent ≤ wire_limit - left t.count p.taken) → Ends
+        over n f (inl b) = absurd (omega (arith, h ∙ sym (ending-full t.count p n f b)))
+        over n f (inr b) = record { zero = n; free = f; fits = b }
 
-          go : (p.«number» ≡ 0) ⊎ (p.«number» ≢ 0) → Ends
-          go (inr n) = absurd (n (ending-own t.count p n ∙ sym h ∙ z))
-          go (inl n) =
-              split p.done.worn (λ f. absurd (omega (arith, h ∙ sym (ending-worn t.count p n f))))
-              (λ f. over n f (below? (wire_limit - (t.count - p.gap)) p.done.sent))
+        go : (p.«number» ≡ 0) ⊎ (p.«number» ≢ 0) → Ends
+        go (inr n) = absurd (n (ending-own t.count p n ∙ sym h ∙ z))
+        go (inl n) =
+            split p.done.worn (λ f. absurd (omega (arith, h ∙ sym (ending-worn t.count p n f))))
+            (λ f. over n f (below? (wire_limit - left t.count p.taken) (length p.done.sent)))
 
-      -- what is given back for any table, well formed or not
-      pub told-refused : (k ≡ 0 → ⊥) → answer k t ≡ step_as formed t e
+    -- what is given back for any table, well formed or not
+    pub told-refused : (k ≡ 0 → ⊥) → answer k t ≡ step_as formed t e
+    unfolding step_as ends_in
+    told-refused z =
+        ap (λ (x : ℕ). answer x t) h ∙ sym (simp (ne_eqb (ending_of t.count p) 0 (λ b. z (h ∙ b))))
+        ∙ ap (ends_in t) q
+
+    module _ (z : k ≡ 0) where
+      pub step_fits : Fits t p
+      step_fits =
+          record {
+            takes = takes (ends z).zero;
+            room = omega (arith, (ends z).fits, fewer t p.me p.taken (takes (ends z).zero) long, (takes (ends z).zero).count);
+          }
+
+      pub told-made : (u : Table) → u ≡ written_of t p → answer 0 u ≡ step_as formed t e
       unfolding step_as ends_in
-      told-refused z =
-          ap (λ (x : ℕ). answer x t) h ∙ sym (simp (ne_eqb (ending_of t.count p) 0 (λ b. z (h ∙ b))))
-          ∙ ap (ends_in t) q
+      told-made u w = ap (answer 0) w ∙ sym (simp (eq-eqb (ending_of t.count p) 0 (sym h ∙ z))) ∙ ap (ends_in t) q
+
+    -- told rightly, it is the step
+    module _ (right : formed ≡ well_formed t) where
+      s : Plans t e p
+      s = plans-of t shape e p (q ∙ ap (λ (b : Bool). plan_as b t e) (told-rightly t shape formed right))
+
+      pub step-refused : (k ≡ 0 → ⊥) → answer k t ≡ step_of t e
+      step-refused z = go (same? p.«number» 0)
+        where
+          over : (m : Made t e p) → (n : p.«number» ≡ 0) → p.done.worn ≡ false → (wire_limit - left t.count p.taken < length p.done.sent) ⊎ (length p.done.sent ≤ wire_limit - left t.count p.taken)
+              → answer k t ≡ step_of t e
+          over m n f (inl b) =
+              ap (λ (x : ℕ). answer x t) (h ∙ sym (ending-full t.count p n f b))
+              ∙ outcome-full t p.me p.taken m.takes long p.done f b ∙ m.step
+          over m n f (inr b) = absurd (z (h ∙ sym (ending-done t.count p n f b)))
+
+          go : (p.«number» ≡ 0) ⊎ (p.«number» ≢ 0) → answer k t ≡ step_of t e
+          go (inr n) = ap (λ (x : ℕ). answer x t) (h ∙ sym (ending-own t.count p n)) ∙ s.refused n
+          go (inl n) =
+              let m = s.made n in
+              split p.done.worn
+              (λ f. ap (λ (x : ℕ). answer x t) (h ∙ sym (ending-worn t.count p n f))
+              ∙ outcome-worn t p.me p.taken m.takes long p.done f ∙ m.step)
+              (λ f. over m n f (below? (wire_limit - left t.count p.taken) (length p.done.sent)))
 
       module _ (z : k ≡ 0) where
-        pub step_fits : Fits t p
-        step_fits =
-            record {
-              takes = takes (ends z).zero;
-              sent = plan-sends t e (formed && placed t) p q o;
-              room = omega (arith, (ends z).fits, (takes (ends z).zero).count, (takes (ends z).zero).low);
-            }
+        made : Made t e p
+        made = s.made (ends z).zero
 
-        pub told-made : (u : Table) → u ≡ written_of t p → answer 0 u ≡ step_as formed t e
-        unfolding step_as ends_in
-        told-made u w = ap (answer 0) w ∙ sym (simp (eq-eqb (ending_of t.count p) 0 (sym h ∙ z))) ∙ ap (ends_in t) q
-
-      -- told rightly, it is the step
-      module _ (right : formed ≡ well_formed t) where
-        s : Plans t e p
-        s = plans-of t shape e p (q ∙ ap (λ (b : Bool). plan_as b t e) (told-rightly t shape formed right)) o
-
-        pub step-refused : (k ≡ 0 → ⊥) → answer k t ≡ step_of t e
-        step-refused z = go (same? p.«number» 0)
-          where
-            over : (m : Made t e p) → (n : p.«number» ≡ 0) → p.done.worn ≡ false → (wire_limit - (t.count - p.gap) < p.done.sent) ⊎ (p.done.sent ≤ wire_limit - (t.count - p.gap))
-                → answer k t ≡ step_of t e
-            over m n f (inl b) =
-                ap (λ (x : ℕ). answer x t) (h ∙ sym (ending-full t.count p n f b))
-                ∙ outcome-full t p.me p.place p.gap m.takes long p.done m.work m.done f b ∙ m.step
-            over m n f (inr b) = absurd (z (h ∙ sym (ending-done t.count p n f b)))
-
-            go : (p.«number» ≡ 0) ⊎ (p.«number» ≢ 0) → answer k t ≡ step_of t e
-            go (inr n) = ap (λ (x : ℕ). answer x t) (h ∙ sym (ending-own t.count p n)) ∙ s.refused n
-            go (inl n) =
-                let m = s.made n in
-                split p.done.worn
-                (λ f. ap (λ (x : ℕ). answer x t) (h ∙ sym (ending-worn t.count p n f))
-                ∙ outcome-worn t p.me p.place p.gap m.takes long p.done m.work m.done f ∙ m.step)
-                (λ f. over m n f (below? (wire_limit - (t.count - p.gap)) p.done.sent))
-
-        module _ (z : k ≡ 0) where
-          made : Made t e p
-          made = s.made (ends z).zero
-
-          pub step-made : (u : Table) → u ≡ written_of t p → answer 0 u ≡ step_of t e
-          step-made u w =
-              outcome-done t p.me p.place p.gap made.takes long p.done made.work made.done (ends z).free (ends z).fits (answer 0 u)
-              (ap (answer 0)
-              (w ∙ written-writes t p made.takes long (omega (arith, made.sent, o)) (step_fits z).room made.blank made.work made.me made.few made.done))
-              ∙ made.step
+        pub step-made : (u : Table) → u ≡ written_of t p → answer 0 u ≡ step_of t e
+        step-made u w =
+            outcome-done t p.me p.taken made.takes long p.done (ends z).free (ends z).fits (answer 0 u)
+            (ap (answer 0)
+            (w ∙ written-writes t p made.takes long (step_fits z).room made.blank made.me made.few))
+            ∙ made.step
 
 -- what was told is right
 pub told-right : (formed : Bool) (t : Table) (e : Event) (r : Answer) → formed ≡ well_formed t → (formed ≡ well_formed t → r ≡ step_of t e) → r ≡ step_of t e

@@ -1,4 +1,4 @@
--- What owning a table, and what a room has done, tells of their values.
+-- What owning a table tells of its value.
 use mathlib.Core.Path.{◌≡◌}
 use mathlib.Core.List.{List, [], ◌∷◌}
 use Prim.Native.Nat.{ℕ, zero, suc, ◌<◌}
@@ -18,9 +18,6 @@ use Rattle.table.specs.declared.Table.{Table}
 use Rattle.table.specs.contracts.Table as tables
 use Rattle.table.proofs.Known.{rooms-long, queue_long, wires-long}
 use Rattle.facts.specs.Shapes.{Shaped}
-use Rattle.act.specs.Desk.{out_limit}
-use Rattle.plan.specs.declared.Plan.{Plan}
-use Rattle.plan.specs.contracts.Plan as plans
 
 -- what owning an array's elements tells of each
 each-known : {D : Type 0} (f : D → List Val → Fml) (P : D → Type 0) (z : D) → ((v : D) (us : List Val) → shadow (f v us) → P v)
@@ -41,7 +38,3 @@ shaped t g =
       entries = λ c h. each-known rooms.the_row.own_val (λ (r : Room). length r.entries ≡ room_limit) no_room
           (λ v us s. s.1.1.1.1.1.1.1.1.1.1.0.1.0.1) t.rooms _ g.1.1.1.0.1.1 c (omega arith);
     }
-
--- the outbox of what a plan has done
-pub plan-out-long : (p : Plan) {vs : List Val} → Is plans.the_row p vs → length p.done.out ≡ out_limit
-plan-out-long p g = g.1.1.1.1.1.0.1.1.1.1.1.0.1.0.1

@@ -1,5 +1,6 @@
 pub mod Known
 pub mod Splice
+pub mod Writes
 pub mod Sizes
 pub mod Outcomes
 pub mod Queues

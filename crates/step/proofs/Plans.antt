@@ -1,7 +1,6 @@
 -- What the plan of a step tells: it is a refusal that the rules give, or work whose outcome is the step.
-use mathlib.Core.Path.{◌≡◌, refl, sym, ◌∙◌, ap}
+use mathlib.Core.Path.{◌≡◌, refl, sym, ◌∙◌}
 use mathlib.Core.Bool.{true, false}
-use mathlib.Core.List.{List}
 use Prim.Native.Nat.{ℕ, ◌≤◌}
 use native.Mathlib.Omega.{arith}
 use lib.Dec.{eqb}
@@ -9,10 +8,9 @@ use lib.ListN.{length}
 use lib.Seq.{length-take-le}
 use borrow.Author.Tests.{eqb-true, eqb-false}
 use Rattle.base.specs.Choice.{split}
-use Rattle.base.specs.Arrays.{padded, padded-fits}
+use Rattle.base.specs.Arrays.{padded}
 use Rattle.std.specs.Prelude.{Option, Some, None}
 use Rattle.table.specs.declared.Table.{Table}
-use Rattle.table.specs.declared.Wire.{Wire}
 use Rattle.table.specs.declared.Found.{Found}
 use Rattle.table.specs.Limits.{queue_limit, wire_limit}
 use Rattle.table.specs.Tables.{no_wire, messages_of, answer}
@@ -28,33 +26,23 @@ use Rattle.rules.specs.Work.{Work, work_at}
 use Rattle.rules.specs.Rules.{ask, upgrade, hand_back, receive}
 use Rattle.rules.specs.Refusals.{refusal}
 use Rattle.rules.specs.Step.{outcome, delivered, made, step_of}
-use Rattle.act.specs.Desk.{out_limit}
-use Rattle.act.specs.Done.{done_of}
 use Rattle.plan.specs.Plans.{Planned, made_plan, refused_plan, taking, doing, plan_as}
 use Rattle.step.specs.Writes.{without, Takes}
-use Rattle.step.proofs.Outcomes.{without-none, without-one}
 use Rattle.step.proofs.Queues.{Grows, ask-grows, upgrade-grows, hand-back-grows, receive-grows}
 use Rattle.step.proofs.Places.{queue-fits, asks-place, receive-place}
 
 -- a plan to make the step: the work that was done, and that its outcome is the step
 pub record Made (t : Table) (e : Event) (p : Planned) : Type 0 where
-  pub work : Work
-  pub me : work.me ≡ p.me
-  pub few : length work.queue ≤ queue_limit
-  pub done : p.done ≡ done_of work
-  pub sent : p.done.sent ≤ out_limit
-  pub takes : Takes t p.me p.place p.gap
+  pub me : p.done.me ≡ p.me
+  pub few : length p.done.queue ≤ queue_limit
+  pub takes : Takes t p.me p.taken
   pub blank : t.wires ≡ padded wire_limit no_wire (messages_of t)
-  pub step : outcome t (without t p.place p.gap) work ≡ step_of t e
+  pub step : outcome t (without t p.taken) p.done ≡ step_of t e
 
 -- a plan for the step on t by e
 pub record Plans (t : Table) (e : Event) (p : Planned) : Type 0 where
   pub refused : (p.«number» ≡ 0 → ⊥) → answer p.«number» t ≡ step_of t e
   pub made : p.«number» ≡ 0 → Made t e p
-
--- the outbox of a plan is as long as its type says
-abbrev Long : Planned → Type 0
-Long p = length p.done.out ≡ out_limit
 
 module _ (t : Table) (s : Shaped t) (e : Event) where
   refused-plans : (k : ℕ) → refusal t e ≡ k → (k ≡ 0 → ⊥) → Plans t e (refused_plan k)
@@ -76,18 +64,15 @@ module _ (t : Table) (s : Shaped t) (e : Event) where
     unfolding step_of
     steps = sym (simp h)
 
-    -- work w of room x, with gap many messages at place taken out
-    plans : (x place gap : ℕ) → Takes t x place gap → (w : Work) (most : ℕ) → Grows most (work_at t x) w → most ≤ queue_limit → Long (made_plan x place gap (done_of w))
-        → outcome t (without t place gap) w ≡ made t e → Plans t e (made_plan x place gap (done_of w))
-    plans x place gap k w most g room long q =
+    -- work w of room x, with the message that is taken out, if one is
+    plans : (x : ℕ) (taken : Option ℕ) → Takes t x taken → (w : Work) (most : ℕ) → Grows most (work_at t x) w → most ≤ queue_limit
+        → outcome t (without t taken) w ≡ made t e → Plans t e (made_plan x taken w)
+    plans x taken k w most g room q =
         record {
           refused = λ z. absurd (z refl);
           made = λ z. record {
-            work = w;
             me = g.me;
             few = omega (arith, g.queue);
-            done = refl;
-            sent = padded-fits out_limit no_wire w.sent long;
             takes = k;
             blank = facts.wires-blank;
             step = q ∙ steps;
@@ -95,47 +80,46 @@ module _ (t : Table) (s : Shaped t) (e : Event) where
         }
 
     -- an event that takes no message out
-    own-plans : (w : Work) (most : ℕ) → Grows most (work_at t e.room) w → most ≤ queue_limit → Long (made_plan e.room t.count 0 (done_of w))
-        → outcome t (messages_of t) w ≡ made t e → Plans t e (made_plan e.room t.count 0 (done_of w))
-    own-plans w most g room long q =
-        plans e.room t.count 0
-        (record { one = omega arith; low = omega arith; count = facts.count; acts = omega (arith, acts.low, facts.low) })
-        w most g room long (ap (λ (l : List Wire). outcome t l w) (without-none t s.wires facts.count) ∙ q)
+    own-plans : (w : Work) (most : ℕ) → Grows most (work_at t e.room) w → most ≤ queue_limit
+        → outcome t (messages_of t) w ≡ made t e → Plans t e (made_plan e.room None w)
+    own-plans w most g room q =
+        plans e.room None
+        (record { low = tt; count = facts.count; acts = omega (arith, acts.low, facts.low) })
+        w most g room q
 
     -- a delivery
-    taking-plans : is_deliver e ≡ true → (r : Option Found) → oldest_of t e.room e.other ≡ r → Long (taking t e.room e.other r)
+    taking-plans : is_deliver e ≡ true → (r : Option Found) → oldest_of t e.room e.other ≡ r
         → delivered t e.room e.other r ≡ made t e → Plans t e (taking t e.room e.other r)
     unfolding taking delivered
-    taking-plans d None o long q = absurd (acts.found d o)
-    taking-plans d (Some found) o long q =
+    taking-plans d None o q = absurd (acts.found d o)
+    taking-plans d (Some found) o q =
         let place = oldest-low t e.room e.other found.place found.message o in
         let all = length-take-le t.count t.wires (omega (arith, facts.count, s.wires)) in
         let w = receive (work_at t e.other) e.room found.message in
-        plans e.other found.place 1
-        (record { one = omega arith; low = omega arith; count = facts.count; acts = omega (arith, acts.near d, facts.low) })
-        w _ (receive-grows (work_at t e.other) e.room found.message) (receive-place t s acts.formed e.room e.other found.place found.message o) long
-        (ap (λ (l : List Wire). outcome t l w) (without-one t s.wires facts.count found.place) ∙ q)
+        plans e.other (Some found.place)
+        (record { low = omega arith; count = facts.count; acts = omega (arith, acts.near d, facts.low) })
+        w _ (receive-grows (work_at t e.other) e.room found.message) (receive-place t s acts.formed e.room e.other found.place found.message o) q
 
-    doing-plans : Long (doing t e) → Plans t e (doing t e)
+    doing-plans : Plans t e (doing t e)
     unfolding doing made
-    doing-plans long =
+    doing-plans =
         split (is_ask e)
         (λ a. rw a (own-plans (ask (work_at t e.room) e.mode) _ (ask-grows (work_at t e.room) e.mode)
-        (omega (arith, asks-place t s acts.formed e.room acts.low (acts.idle (other a)))) (rw a at long) (sym (simp a))))
+        (omega (arith, asks-place t s acts.formed e.room acts.low (acts.idle (other a)))) (sym (simp a))))
         (λ a. split (is_upgrade e)
-        (λ u. rw (a, u) (own-plans (upgrade (work_at t e.room)) _ (upgrade-grows (work_at t e.room)) (queue-fits t s acts.formed) (rw (a, u) at long) (sym (simp (a, u)))))
+        (λ u. rw (a, u) (own-plans (upgrade (work_at t e.room)) _ (upgrade-grows (work_at t e.room)) (queue-fits t s acts.formed) (sym (simp (a, u)))))
         (λ u. split (is_hand_back e)
-        (λ b. rw (a, u, b) (own-plans (hand_back (work_at t e.room)) _ (hand-back-grows (work_at t e.room)) (queue-fits t s acts.formed) (rw (a, u, b) at long) (sym (simp (a, u, b)))))
-        (λ b. rw (a, u, b) (taking-plans (acts.kinds a u b) (oldest_of t e.room e.other) refl (rw (a, u, b) at long) (sym (simp (a, u, b)))))))
+        (λ b. rw (a, u, b) (own-plans (hand_back (work_at t e.room)) _ (hand-back-grows (work_at t e.room)) (queue-fits t s acts.formed) (sym (simp (a, u, b)))))
+        (λ b. rw (a, u, b) (taking-plans (acts.kinds a u b) (oldest_of t e.room e.other) refl (sym (simp (a, u, b)))))))
       where
         -- an ASK is no DELIVER
         other : is_ask e ≡ true → is_deliver e ≡ false
         other a = rw (eqb-true e.kind 0 a)
 
   -- the plan, where it is told rightly whether the table is well formed, is one for the step
-  pub plans-of : (p : Planned) → p ≡ plan_as (well_formed t) t e → length p.done.out ≡ out_limit → Plans t e p
+  pub plans-of : (p : Planned) → p ≡ plan_as (well_formed t) t e → Plans t e p
   unfolding plan_as refusal
-  plans-of p q long =
+  plans-of p q =
       split (eqb (refusal t e) 0)
-      (λ z. let same : p ≡ doing t e = q ∙ simp z in rw same (doing-plans (eqb-true _ _ z) (rw same at long)))
+      (λ z. let same : p ≡ doing t e = q ∙ simp z in rw same (doing-plans (eqb-true _ _ z)))
       (λ z. let same : p ≡ refused_plan (refusal t e) = q ∙ simp z in rw same (refused-plans (refusal t e) refl (λ n. absurd (eqb-false _ _ z n))))

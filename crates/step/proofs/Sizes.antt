@@ -1,21 +1,18 @@
 -- A plan that is made takes its message from those that there are, and is about a room that the array has, whatever was told of the table.
-use mathlib.Core.Path.{◌≡◌, refl, sym, ◌∙◌, ap, subst⁻¹}
+use mathlib.Core.Path.{◌≡◌, refl, sym, ◌∙◌, ap}
 use mathlib.Core.Bool.{Bool, true, ◌&&◌}
-use Prim.Native.Nat.{ℕ, ◌≤◌}
+use Prim.Native.Nat.{◌≤◌}
 use native.Mathlib.Omega.{arith}
 use lib.Dec.{leb, eqb}
-use lib.ListN.{length}
 use lib.Seq.{length-take-le}
 use borrow.Author.Tests.{leb-true, le-leb, eqb-true, eqb-false}
-use Rattle.base.specs.Choice.{split, by-test}
-use Rattle.base.specs.Arrays.{padded-fits}
+use Rattle.base.specs.Choice.{split}
 use Rattle.base.specs.Tests.{and_left, and_right}
 use Rattle.room.specs.Limits.{room_limit}
 use Rattle.std.specs.Prelude.{Option, Some, None}
 use Rattle.table.specs.declared.Table.{Table}
 use Rattle.table.specs.declared.Found.{Found}
 use Rattle.table.specs.Limits.{wire_limit}
-use Rattle.table.specs.Tables.{no_wire}
 use Rattle.table.specs.Oldest.{oldest_of}
 use Rattle.table.specs.Formed.{well_formed}
 use Rattle.facts.specs.Shapes.{Shaped}
@@ -24,38 +21,9 @@ use Rattle.facts.specs.Search.{oldest-low}
 use Rattle.facts.specs.Accepted.{AcceptedAs, accepted-as}
 use Rattle.rules.specs.declared.Event.{Event}
 use Rattle.rules.specs.Events.{is_ask, is_upgrade, is_hand_back, is_deliver}
-use Rattle.rules.specs.Work.{Work, work_at}
-use Rattle.rules.specs.Rules.{ask, upgrade, hand_back, receive}
 use Rattle.rules.specs.Refusals.{refusal_as}
-use Rattle.act.specs.Desk.{out_limit}
-use Rattle.act.specs.Done.{done_of}
-use Rattle.plan.specs.Plans.{Planned, made_plan, refused_plan, taking, doing, placed, plan_as}
+use Rattle.plan.specs.Plans.{Planned, refused_plan, taking, doing, placed, plan_as}
 use Rattle.step.specs.Writes.{Takes}
-
--- what a plan sends fits the outbox that its work was laid into
-abbrev Sends : Planned → Type 0
-Sends p = length p.done.out ≡ out_limit → p.done.sent ≤ out_limit
-
-done-sends : (me place gap : ℕ) (w : Work) → Sends (made_plan me place gap (done_of w))
-done-sends me place gap w long = padded-fits out_limit no_wire w.sent long
-
-module _ (t : Table) where
-  taking-sends : (a b : ℕ) (r : Option Found) → Sends (taking t a b r)
-  unfolding taking
-  taking-sends a b None long = omega arith
-  taking-sends a b (Some found) long = done-sends b found.place 1 (receive (work_at t b) a found.message) long
-
-  doing-sends : (e : Event) → Sends (doing t e)
-  unfolding doing
-  doing-sends e =
-      by-test Sends (is_ask e) _ _ (λ a. done-sends e.room t.count 0 (ask (work_at t e.room) e.mode))
-      (λ a. by-test Sends (is_upgrade e) _ _ (λ u. done-sends e.room t.count 0 (upgrade (work_at t e.room)))
-      (λ u. by-test Sends (is_hand_back e) _ _ (λ b. done-sends e.room t.count 0 (hand_back (work_at t e.room)))
-      (λ b. taking-sends e.room e.other (oldest_of t e.room e.other))))
-
-  pub plan-sends : (e : Event) (told : Bool) (p : Planned) → p ≡ plan_as told t e → Sends p
-  unfolding plan_as
-  plan-sends e told p q = subst⁻¹ Sends q (by-test Sends (eqb (refusal_as told t e) 0) _ _ (λ b. doing-sends e) (λ b long. omega arith))
 
 module _ (t : Table) (s : Shaped t) where
   -- what is told rightly is believed: a table that is well formed has its places
@@ -81,25 +49,25 @@ module _ (t : Table) (s : Shaped t) where
       messages = leb-true _ _ (and_right (leb t.n room_limit) _ (fits acts.formed))
 
       -- an event that takes no message out
-      own : Takes t e.room t.count 0
-      own = record { one = omega arith; low = omega arith; count = messages; acts = omega (arith, acts.low, rooms) }
+      own : Takes t e.room None
+      own = record { low = tt; count = messages; acts = omega (arith, acts.low, rooms) }
 
       delivery : is_deliver e ≡ true → (r : Option Found) → oldest_of t e.room e.other ≡ r
-          → Takes t (taking t e.room e.other r).me (taking t e.room e.other r).place (taking t e.room e.other r).gap
+          → Takes t (taking t e.room e.other r).me (taking t e.room e.other r).taken
       unfolding taking
       delivery d None o = absurd (acts.found d o)
       delivery d (Some found) o =
           let place = oldest-low t e.room e.other found.place found.message o in
           let all = length-take-le t.count t.wires (omega (arith, messages, s.wires)) in
-          record { one = omega arith; low = omega arith; count = messages; acts = omega (arith, acts.near d, rooms) }
+          record { low = omega arith; count = messages; acts = omega (arith, acts.near d, rooms) }
 
-      done : Takes t (doing t e).me (doing t e).place (doing t e).gap
+      done : Takes t (doing t e).me (doing t e).taken
       unfolding doing
       done =
           split (is_ask e) (λ a. rw a own) (λ a. split (is_upgrade e) (λ u. rw (a, u) own) (λ u. split (is_hand_back e) (λ b. rw (a, u, b) own)
           (λ b. rw (a, u, b) (delivery (acts.kinds a u b) (oldest_of t e.room e.other) refl))))
 
-    pub takes_of : (p : Planned) → p ≡ plan_as told t e → p.«number» ≡ 0 → Takes t p.me p.place p.gap
+    pub takes_of : (p : Planned) → p ≡ plan_as told t e → p.«number» ≡ 0 → Takes t p.me p.taken
     unfolding plan_as
     takes_of p q z =
         split (eqb (refusal_as told t e) 0)

@@ -2,12 +2,11 @@
 // nothing is written until the step is known to be made.
 #![tactic(auto)]
 
-ghost use Rattle.std.specs.Prelude.{◌≡◌, length};
+ghost use Rattle.std.specs.Prelude.{◌≡◌};
 ghost use Rattle.rules.specs.Step.{step_of};
 ghost use Rattle.table.specs.Numbers.{number_in};
 ghost use Rattle.table.specs.Tables.{answer_in};
 ghost use Rattle.table.specs.Formed.{well_formed};
-ghost use Rattle.act.specs.Desk.{out_limit};
 ghost use Rattle.plan.specs.Plans.{made_of};
 ghost use Rattle.step.specs.Writes.{Sized, ending_of, step_as};
 
@@ -16,20 +15,19 @@ mod write;
 use plan::Plan;
 use rules::Event;
 use table::{Refusal, Table, WIRES};
-use write::written;
+use write::{left, written};
 
 // Whether a plan can be written into a table with so many messages: WORN, FULL, or nothing is in its way.
-// Only for step_untested, which is proved: a plan takes out no more messages than there are.
-fn fits(count: usize, p: Plan) -> Result<(), Refusal>
-    requires { Sized count (made_of p) }
-    ensures ending { number_in result ≡ ending_of count (made_of p) }
-    ensures outbox { length p.done.out ≡ out_limit }
+// Only for step_untested, which is proved: a plan takes out a message that there is.
+fn fits(count: usize, p: &Plan) -> Result<(), Refusal>
+    requires { Sized count (made_of p.now) }
+    ensures { number_in result ≡ ending_of count (made_of p.now) }
 {
-    if p.done.worn {
+    if p.done.worn() {
         return Err(Refusal::Worn);
     }
-    let kept = count - p.gap;
-    if p.done.sent > WIRES - kept {
+    let kept = left(count, p.taken);
+    if p.done.sent().len() > WIRES - kept {
         return Err(Refusal::Full);
     }
     Ok(())
@@ -41,8 +39,8 @@ pub fn step_untested(t: Table, e: Event, formed: bool) -> Result<Table, Refusal>
     ensures told_rightly { formed ≡ well_formed t → answer_in t result ≡ step_of t e }
 {
     let p = plan::planned(t, e, formed)?;
-    fits(t.count, p)?;
-    Ok(written(t, p))
+    fits(t.count, &p)?;
+    Ok(written(t, &p))
 }
 
 // One step on any table and any event: the table after it, or why it is refused. A refusal is of the table as it came.

@@ -15,7 +15,8 @@ pub const QUEUE: usize = 16;
 // The messages that a table can have on its wires.
 pub const WIRES: usize = 256;
 
-// What a wire carries. Nothing stands on a wire that is not in use.
+// What a wire carries. Nothing stands on a wire that is not in use. It is a variant, and no Option around the others: document 01 has one
+// enum with its data, and what tests or takes a message answers for Nothing too.
 #[derive(Clone, Copy, PartialEq, Eq, Default)]
 pub enum Message {
     #[default]
@@ -52,6 +53,7 @@ pub const NO_QUEUED: Queued = Queued {
     mode: modes::NONE,
 };
 
+// Arrays with the counts in use beside them, as document 01 has them: a count or a filler that is damaged is a value, and gets its answer.
 #[derive(Clone, Copy, PartialEq, Eq)]
 pub struct Table {
     pub n: u8,

@@ -119,7 +119,8 @@ pub fn byte(value: usize) -> u8 {
     u8::try_from(value).unwrap_or(u8::MAX)
 }
 
-// A value as a link number: the last one where it is larger.
+// A value as a link number: the last one where it is larger. One function for both types would take their bounds and their largest values
+// with it, and be no plainer.
 pub fn link(value: usize) -> u32 {
     u32::try_from(value).unwrap_or(room::LAST_LINK)
 }

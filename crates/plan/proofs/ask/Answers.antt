@@ -11,13 +11,16 @@ use Rattle.base.specs.Below.{all_more, all-fails}
 use Rattle.plan.proofs.Numbers.{refused-is, ask-below, ask-above, ask-waiting, ask-held, ask-busy, ask-worn, ask-made, ask-is}
 use borrow.Author.Rules.{rules}
 use Rattle.plan.proofs.ask.Invariants.{fresh}
+use Rattle.plan.proofs.ask.Goals.{in_default-via-then-e-lt1, in_default-via-else-e-lt1+else-e-lt6}
 use Rattle.plan.proofs.ask.Goals as goal
 
 pub returns-in_default : goal.returns-in_default
-returns-in_default c = refused-is _ _ true 4 (λ q. omega arith) (ask-below _ _ c.requires (omega arith))
-
-pub returns-in_default-2 : goal.returns-in_default-2
-returns-in_default-2 c = refused-is _ _ true 4 (λ q. omega arith) (ask-above _ _ c.requires (omega arith))
+returns-in_default c =
+    refused-is _ _ true 4 (λ q. omega arith)
+    (elim c.in_default.branch [
+      | in_default-via-then-e-lt1 w ↦ ask-below _ _ c.requires (omega arith)
+      | in_default-via-else-e-lt1+else-e-lt6 w ↦ ask-above _ _ c.requires (omega arith)
+    ])
 
 pub returns-in-1-to-255 : goal.returns-in-1-to-255
 returns-in-1-to-255 c = refused-is _ _ true 5 (λ q. omega arith) (ask-waiting _ _ (search rules) (omega arith) (omega arith) (λ q. omega arith))

@@ -15,8 +15,8 @@ returns-in_err-p c =
     let own = ending-own a.t.count (refused_plan (number_of c.in_err-p.field-0.0)) some in
     rw (p.1, p.2)
     (record {
-      as_told = told-refused a.t c.well_formed.0 a.e a.formed _ c.in_err-p.ensures refl _ own some;
-      told_rightly = λ right. step-refused a.t c.well_formed.0 a.e a.formed _ c.in_err-p.ensures refl _ own right some;
+      as_told = told-refused a.t c.well_formed.0 a.e a.formed _ c.in_err-p.ensures _ own some;
+      told_rightly = λ right. step-refused a.t c.well_formed.0 a.e a.formed _ c.in_err-p.ensures _ own right some;
     })
 
 pub returns-in_err-fits : goal.returns-in_err-fits
@@ -24,11 +24,10 @@ returns-in_err-fits c =
     let a = c.args in
     let p = err_from_is_err_and c.from_residual-in_err-fits.result c.from_residual-in_err-fits.ensures.1 in
     let some = number-some c.in_err-fits.field-0.0 in
-    let out = c.fits.ensures.outbox in
     rw (p.1, p.2)
     (record {
-      as_told = told-refused a.t c.well_formed.0 a.e a.formed _ c.in_ok-p.ensures out _ c.in_err-fits.ensures.ending some;
-      told_rightly = λ right. step-refused a.t c.well_formed.0 a.e a.formed _ c.in_ok-p.ensures out _ c.in_err-fits.ensures.ending right some;
+      as_told = told-refused a.t c.well_formed.0 a.e a.formed _ c.in_ok-p.ensures _ c.in_err-fits.ensures some;
+      told_rightly = λ right. step-refused a.t c.well_formed.0 a.e a.formed _ c.in_ok-p.ensures _ c.in_err-fits.ensures right some;
     })
 
 pub fits-requires : goal.fits-requires
@@ -36,13 +35,12 @@ fits-requires c = plan-sizes c.args.t c.well_formed.0 c.args.e c.args.formed _ c
 
 pub written-requires : goal.written-requires
 written-requires c =
-    step_fits c.args.t c.well_formed.0 c.args.e c.args.formed _ c.in_ok-p.ensures c.fits.ensures.outbox _ c.in_ok-fits.ensures.ending refl
+    step_fits c.args.t c.well_formed.0 c.args.e c.args.formed _ c.in_ok-p.ensures _ c.in_ok-fits.ensures refl
 
 pub returns : goal.returns
 returns c =
     let a = c.args in
-    let out = c.fits.ensures.outbox in
     record {
-      as_told = told-made a.t c.well_formed.0 a.e a.formed _ c.in_ok-p.ensures out _ c.in_ok-fits.ensures.ending refl _ c.written.ensures;
-      told_rightly = λ right. step-made a.t c.well_formed.0 a.e a.formed _ c.in_ok-p.ensures out _ c.in_ok-fits.ensures.ending right refl _ c.written.ensures;
+      as_told = told-made a.t c.well_formed.0 a.e a.formed _ c.in_ok-p.ensures _ c.in_ok-fits.ensures refl _ c.written.ensures;
+      told_rightly = λ right. step-made a.t c.well_formed.0 a.e a.formed _ c.in_ok-p.ensures _ c.in_ok-fits.ensures right refl _ c.written.ensures;
     }
