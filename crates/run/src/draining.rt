@@ -46,7 +46,7 @@ pub fn drain(t: Table, events: &[u8]) -> Drained
 }
 
 // 3n² + 8n + m with m messages on the wires: from a table that events led to from a fresh one no more deliveries and hand-backs are
-// accepted. 0 where the table is not well formed: then none is.
+// accepted. 0 where the table is not well formed: then none is, so 0 is the bound there too and no Option is needed.
 #[tactic(auto, using(crate::proofs::Left::left_sizes))]
 pub fn steps_left(t: Table) -> usize
     ensures { IsLeft t result }
@@ -54,6 +54,6 @@ pub fn steps_left(t: Table) -> usize
     if !formed::well_formed(t) {
         return 0;
     }
-    let n = t.n as usize;
+    let n = usize::from(t.n);
     FOR_TWO_ROOMS * (n * n) + FOR_A_ROOM * n + t.count
 }

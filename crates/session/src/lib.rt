@@ -5,6 +5,7 @@ ghost use Rattle.std.specs.Prelude.{◌≡◌, not, eqb};
 ghost use Rattle.table.specs.Formed.{well_formed};
 ghost use Rattle.table.specs.Numbers.{number_of};
 ghost use Rattle.table.specs.Tables.{answer, answer_in};
+ghost use Rattle.writing.specs.Written.{length_of, written_of};
 ghost use Rattle.session.specs.Known.{Known};
 ghost use Rattle.session.specs.Turns.{unread, obeyed, answer_to, obeyed_as, answer_as, Leaves};
 
@@ -46,6 +47,18 @@ fn obey(t: Table, c: Option<Command>, formed: bool) -> Result<Table, Refusal>
     }
 }
 
+// The turn that ends with a number and a table.
+fn shown(number: u8, after: Table, out: &mut [u8]) -> Turned
+    ensures value { result ≡ record { table = after; length = length_of «number» after out.old } }
+    ensures out_after { out.new ≡ written_of «number» after out.old }
+{
+    let length = write_line(number, after, out);
+    Turned {
+        table: after,
+        length,
+    }
+}
+
 // A turn; formed tells whether t is well formed.
 #[tactic(auto, unfolding(crate::specs::Turns::turned_of, crate::specs::Turns::answer_as, crate::specs::Turns::answer_to, writing::specs::Written::written_of))]
 fn answer(t: Table, formed: bool, line: &[u8], out: &mut [u8]) -> Turned
@@ -58,14 +71,9 @@ fn answer(t: Table, formed: bool, line: &[u8], out: &mut [u8]) -> Turned
             length: 0,
         };
     }
-    let (number, after) = match obey(t, read(line), formed) {
-        Ok(next) => (DONE, next),
-        Err(refusal) => (u8::from(refusal), t),
-    };
-    let length = write_line(number, after, out);
-    Turned {
-        table: after,
-        length,
+    match obey(t, read(line), formed) {
+        Ok(next) => shown(DONE, next, out),
+        Err(refusal) => shown(u8::from(refusal), t, out),
     }
 }
 
