@@ -15,6 +15,7 @@ use table::{Message, Queued, Wire};
 
 // Contracts see a desk as the work that stands on it. Its invariant: there are never more queued and sent than a step needs.
 // That there is room for one more (HasRoom) stays a clause of each that sends: as with a vector, it is no fact of every one.
+// `worn` is a flag beside the link numbers, as the rules' own: what is sent goes on under the last number, and only the step is refused.
 #[derive(Drop)]
 pub struct Desk {
     pub(crate) me: u8,

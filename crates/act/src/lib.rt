@@ -16,7 +16,7 @@ pub const PLACES: usize = QUEUE + 1;
 // Room for the messages of one step: with the token one for each place at most, without it a loan and a REDUCE. Two to spare.
 pub const OUTBOX: usize = PLACES + 2;
 
-// A room before it acts, and the queue: an array and its count, as document 01 has them in the table.
+// A room before it acts, and the queue: an array and its count, as the table has them.
 #[derive(Clone, Copy)]
 pub struct Start {
     pub me: u8,

@@ -1,6 +1,6 @@
 // Which event comes next: one of a session, or one of a drain, in several orders.
 use crate::numbers::{below, byte};
-use rules::Event;
+use rules::{Event, Kind};
 use table::{Table, WIRES, Wire};
 
 // The order of a drain.
@@ -19,9 +19,9 @@ pub enum Order {
 pub const ORDERS: [Order; 4] = [Order::Oldest, Order::Newest, Order::Starved, Order::Random];
 
 // An event of one room, picked with a mode by a random number.
-fn of_a_room(kind: u8, t: &Table, r: usize) -> Event {
+fn of_a_room(kind: Kind, t: &Table, r: usize) -> Event {
     Event {
-        kind,
+        kind: kind.into(),
         room: byte(below(usize::from(t.n), r)),
         other: 0,
         mode: byte(r / 256 % 5 + 1),
@@ -30,7 +30,7 @@ fn of_a_room(kind: u8, t: &Table, r: usize) -> Event {
 
 fn hand_back(room: usize) -> Event {
     Event {
-        kind: rules::HANDBACK,
+        kind: Kind::HandBack.into(),
         room: byte(room),
         other: 0,
         mode: 0,
@@ -40,7 +40,7 @@ fn hand_back(room: usize) -> Event {
 // The delivery on the wire of a message.
 fn delivery(w: &Wire) -> Event {
     Event {
-        kind: rules::DELIVER,
+        kind: Kind::Deliver.into(),
         room: w.from,
         other: w.to,
         mode: 0,
@@ -60,7 +60,7 @@ fn some_delivery(t: &Table, r: usize) -> Option<Event> {
 
 // An event of a session: some room asks.
 pub fn ask(t: &Table, r: usize) -> Option<Event> {
-    Some(of_a_room(rules::ASK, t, r / 8))
+    Some(of_a_room(Kind::Ask, t, r / 8))
 }
 
 // Of eight events that are mixed two ask, one upgrades, two hand back, and three deliver some message, if there is one.
@@ -68,8 +68,8 @@ pub fn mixed(t: &Table, r: usize) -> Option<Event> {
     let rest = r / 8;
     match r % 8 {
         0..=1 => ask(t, r),
-        2 => Some(of_a_room(rules::UPGRADE, t, rest)),
-        3..=4 => Some(of_a_room(rules::HANDBACK, t, rest)),
+        2 => Some(of_a_room(Kind::Upgrade, t, rest)),
+        3..=4 => Some(of_a_room(Kind::HandBack, t, rest)),
         _ => some_delivery(t, rest),
     }
 }

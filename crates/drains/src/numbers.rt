@@ -29,7 +29,7 @@ pub fn below(n: usize, r: usize) -> usize {
     r.checked_rem(n).unwrap_or(0)
 }
 
-// A number as a byte: 255 where it is larger.
+// A number as a byte: 255 where it is larger. Vectors has the same line: a crate for it would be longer than both.
 pub fn byte(value: usize) -> u8 {
     u8::try_from(value).unwrap_or(u8::MAX)
 }

@@ -5,7 +5,7 @@ ghost use Rattle.std.specs.Prelude.{◌≡◌};
 ghost use Rattle.modes.specs.Codes.{is_code};
 ghost use Rattle.modes.specs.Modes.{agrees, can_lend, is_stronger};
 
-// The codes of the modes. Numbers and no enum: document 01 has them so, and each of the 256 gets an answer, by `match` with ranges.
+// The codes of the modes. Numbers and no enum: a table or an event can hold any of the 256, and each gets its answer, by `match` with ranges.
 pub const NONE: u8 = 0;
 
 pub const IR: u8 = 1;
@@ -53,7 +53,7 @@ pub fn agree(a: u8, b: u8) -> bool
         NONE..=W => {}
         6..=255 => return false,
     }
-    AGREE[a as usize][b as usize]
+    AGREE[usize::from(a)][usize::from(b)]
 }
 
 // Whether a can lend m. A code above 5 lends nothing and is lent nothing, and none is no loan.

@@ -42,7 +42,7 @@ fn start(t: Table, x: u8) -> Start
 }
 
 // ASK. Each of the four events asks the same of its own kind (`Begins`): a struct that carries it would hold the table once more. And each
-// tests the room by its own `match`, as document 01 has decisions on modes: a function for the one test that three share would be no shorter.
+// tests the room by its own `match`: a function for the one test that three share would be no shorter.
 // Only for planned, which is proved: the kind is known and the table has the room.
 fn ask(t: Table, e: Event) -> Result<Plan, Refusal>
     requires { Begins t e events.ASK }

@@ -13,8 +13,8 @@ use writing::LINE;
 // A line of at most 64 bytes can be of a known form; what is kept of a longer one is longer than that.
 const KEPT: usize = 65;
 
-// The bytes that are written at a time.
-const BUFFER: usize = 65536;
+// The bytes that are read at a time, and those that are written at a time.
+pub const BUFFER: usize = 65536;
 
 // The byte that ends a line.
 const FEED: u8 = b'\n';

@@ -3,12 +3,9 @@
 
 mod lines; // lines.rt: bytes into lines, in whatever pieces they come
 
-use lines::Talk;
+use lines::{BUFFER, Talk};
 use std::io;
 use std::io::Read;
-
-// The bytes that are read at a time.
-const BUFFER: usize = 65536;
 
 // Answers line after line, to the end of the input, or as long as there is somebody to answer. A read that fails ends the input.
 // A proved loop has to end, and nothing says that the input does: the turns are counted, up to a number that no run reaches.

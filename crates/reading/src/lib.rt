@@ -2,9 +2,10 @@
 #![tactic(auto)]
 
 ghost use Rattle.std.specs.Prelude.{◌≡◌, ◌<◌, [], IfSome, IfNone};
+ghost use Rattle.rules.specs.Events.{code_of};
 ghost use Rattle.reading.specs.Lines.{digit_of, number_of, mode_of, before, behind, fresh_command, own_command, ask_command, deliver_command, command_of};
 
-use rules::{ASK, DELIVER, Event, HANDBACK, UPGRADE};
+use rules::{ASK, DELIVER, Event, Kind};
 
 // What a line asks for: a fresh table of n rooms, or an event.
 #[derive(Clone, Copy, PartialEq, Eq)]
@@ -77,12 +78,12 @@ fn fresh(rest: &[u8]) -> Option<Command>
 
 // What follows `u ` and `h `: a number.
 #[tactic(auto, unfolding(crate::specs::Lines::own_command))]
-fn own(kind: u8, rest: &[u8]) -> Option<Command>
-    ensures { result ≡ own_command kind (number_of rest.now) }
+fn own(kind: Kind, rest: &[u8]) -> Option<Command>
+    ensures { result ≡ own_command (code_of kind) (number_of rest.now) }
 {
     let room = number_of(rest)?;
     let event = Event {
-        kind,
+        kind: u8::from(kind),
         room,
         other: 0,
         mode: modes::NONE,
@@ -131,8 +132,8 @@ pub fn read(line: &[u8]) -> Option<Command>
 {
     match line {
         [b'n', b' ', rest @ ..] => fresh(rest),
-        [b'u', b' ', rest @ ..] => own(UPGRADE, rest),
-        [b'h', b' ', rest @ ..] => own(HANDBACK, rest),
+        [b'u', b' ', rest @ ..] => own(Kind::Upgrade, rest),
+        [b'h', b' ', rest @ ..] => own(Kind::HandBack, rest),
         [b'a', b' ', rest @ ..] => ask(rest),
         [b'd', b' ', rest @ ..] => deliver(rest),
         _ => None,

@@ -11,7 +11,7 @@ ghost use Rattle.records.specs.Seen.{no_standing, standing, standing_at, seen_in
 use modes::{IR, IW, NONE, R, U, W, is_code};
 use room::{Entry, NOBODY, ROOMS, Room};
 
-// What the queue and the messages are tested against: the mode that a room waits for, and whether it has the token.
+// What the queue and the messages are tested against: the mode that a room waits for, and whether it has the token, which is a fact by itself.
 #[derive(Clone, Copy)]
 pub struct Standing {
     pub due: u8,

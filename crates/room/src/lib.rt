@@ -15,7 +15,7 @@ use parts::{entry_of, larger, next_link};
 pub const MOST_ROOMS: u8 = 16;
 // The same number as a length: of a table's records, and of a record's entries.
 pub const ROOMS: usize = MOST_ROOMS as usize;
-// In place of a lender's number: there is none. A number and no Option, as the definition `nobody` has it, and the theorems on lenders.
+// In place of a lender's number: there is none.
 pub const NOBODY: u8 = 255;
 // No link number is above this one.
 pub const LAST_LINK: u32 = 4294967295;
@@ -33,6 +33,7 @@ const NO_ENTRY: Entry = Entry {
     link: 0,
 };
 
+// A room's record, as the specification lists it: `token` is a fact by itself, on which no other field waits, and there is an entry for each room.
 #[derive(Clone, Copy, PartialEq, Eq)]
 pub struct Room {
     pub held: u8,
@@ -102,14 +103,17 @@ impl Room {
     fn entry(self, c: u8) -> Entry
         ensures { result ≡ entry_at self c }
     {
-        self.entries.get(c as usize).copied().unwrap_or(NO_ENTRY)
+        self.entries
+            .get(usize::from(c))
+            .copied()
+            .unwrap_or(NO_ENTRY)
     }
 
     // The record with this entry for room c, where it has a place for one.
     fn with_entry(self, c: u8, e: Entry) -> Room
         ensures { result ≡ set_entry self c e }
     {
-        let at = c as usize;
+        let at = usize::from(c);
         let mut room = self;
         if at < ROOMS {
             room.entries[at] = e;
@@ -156,6 +160,7 @@ impl Room {
     }
 
     // Pass the token to w.
+    #[tactic(auto, using(crate::proofs::Laws::passed_free, crate::proofs::Laws::passed_owing))]
     pub fn pass(self, w: u8) -> Passed
         ensures { result ≡ passed self w }
     {
@@ -194,6 +199,7 @@ impl Room {
     }
 
     // Without the token: what is owed falls to what is owned.
+    #[tactic(auto, unfolding(crate::specs::Rules::settled, crate::specs::Rules::credited))]
     pub fn settle(self) -> Changed
         ensures { result ≡ settled self }
     {
@@ -218,6 +224,7 @@ impl Room {
     }
 
     // What taking a loan or the token from a sends to another lender.
+    #[tactic(auto, unfolding(crate::specs::Rules::leaving))]
     fn leave(self, a: u8) -> Option<Reduce>
         ensures { result ≡ leaving self a }
     {
@@ -228,6 +235,7 @@ impl Room {
     }
 
     // Take a GRANT from a.
+    #[tactic(auto, unfolding(crate::specs::Rules::granted))]
     pub fn take_grant(self, a: u8, mode: u8, link: u32) -> Changed
         ensures { result ≡ granted self a mode link }
     {
@@ -242,6 +250,7 @@ impl Room {
     }
 
     // Take the TOKEN from a, as room me.
+    #[tactic(auto, using(crate::proofs::Laws::tokened_by_max))]
     pub fn take_token(self, me: u8, a: u8, mode: u8, rest: u8, link: u32) -> Changed
         ensures { result ≡ tokened self me a mode rest link }
     {
@@ -254,13 +263,12 @@ impl Room {
         room.lender = NOBODY;
         room.credit = modes::NONE;
         room.link = 0;
-        if self.counter < link {
-            room.counter = link;
-        }
+        room.counter = self.counter.max(link);
         Changed { room, send }
     }
 
     // Take a REDUCE from a: only the loan that it names falls.
+    #[tactic(auto, unfolding(crate::specs::Rules::reduced))]
     pub fn take_reduce(self, a: u8, link: u32, mode: u8) -> Room
         ensures { result ≡ reduced self a link mode }
     {

@@ -7,6 +7,7 @@ ghost use Rattle.room.specs.Rules.{next_link};
 use crate::{Entry, NO_ENTRY};
 
 // An entry of this mode; mode none has link number zero.
+#[tactic(auto, unfolding(crate::specs::Record::entry_of))]
 pub fn entry_of(mode: u8, link: u32) -> Entry
     ensures { result ≡ entry_of mode link }
 {
@@ -17,6 +18,7 @@ pub fn entry_of(mode: u8, link: u32) -> Entry
 }
 
 // The stronger of two modes. Not `max`: how modes are ordered is only for `modes` to know.
+#[tactic(auto, unfolding(crate::specs::Owned::larger))]
 pub fn larger(a: u8, b: u8) -> u8
     ensures { result ≡ owning.larger a b }
 {
@@ -24,6 +26,7 @@ pub fn larger(a: u8, b: u8) -> u8
 }
 
 // The counter goes up by 1, as far as there are link numbers.
+#[tactic(auto, unfolding(crate::specs::Rules::next_link))]
 pub fn next_link(counter: u32) -> u32
     ensures { result ≡ next_link counter }
 {

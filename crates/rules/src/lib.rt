@@ -1,7 +1,8 @@
 // The rules of document 01 as definitions, all of them in specs/, and the events that they are about.
 #![tactic(auto)]
 
-ghost use Rattle.rules.specs.Events.{Decodes};
+ghost use Rattle.std.specs.Prelude.{◌≡◌};
+ghost use Rattle.rules.specs.Events.{code_of, Decodes};
 
 use table::Refusal;
 
@@ -36,6 +37,20 @@ impl TryFrom<u8> for Kind {
             HANDBACK => Ok(Kind::HandBack),
             DELIVER => Ok(Kind::Deliver),
             4..=255 => Err(Refusal::Event),
+        }
+    }
+}
+
+// The number of a kind.
+impl From<Kind> for u8 {
+    ghost from_gives = { λ kind given. given ≡ code_of kind };
+
+    fn from(kind: Kind) -> u8 {
+        match kind {
+            Kind::Ask => ASK,
+            Kind::Upgrade => UPGRADE,
+            Kind::HandBack => HANDBACK,
+            Kind::Deliver => DELIVER,
         }
     }
 }

@@ -15,8 +15,8 @@ pub const QUEUE: usize = 16;
 // The messages that a table can have on its wires.
 pub const WIRES: usize = 256;
 
-// What a wire carries. Nothing stands on a wire that is not in use. It is a variant, and no Option around the others: document 01 has one
-// enum with its data, and what tests or takes a message answers for Nothing too.
+// What a wire carries. Nothing stands on a wire that is not in use. It is a variant, and no Option around the others: on a
+// damaged table it can stand on a wire in use, where what tests or takes a message answers for it, and each `match` would be two.
 #[derive(Clone, Copy, PartialEq, Eq, Default)]
 pub enum Message {
     #[default]
@@ -53,7 +53,7 @@ pub const NO_QUEUED: Queued = Queued {
     mode: modes::NONE,
 };
 
-// Arrays with the counts in use beside them, as document 01 has them: a count or a filler that is damaged is a value, and gets its answer.
+// Arrays with the counts in use beside them, as the specification has them: a count or a filler that is damaged is a value, and gets its answer.
 #[derive(Clone, Copy, PartialEq, Eq)]
 pub struct Table {
     pub n: u8,
@@ -76,8 +76,8 @@ fn laid(n: u8, rooms: [Room; ROOMS]) -> Table
     ensures { result ≡ empty_table n rooms }
 {
     Table {
-        n: n,
-        rooms: rooms,
+        n,
+        rooms,
         queue: [NO_QUEUED; QUEUE],
         queued: 0,
         wires: [NO_WIRE; WIRES],
@@ -86,6 +86,7 @@ fn laid(n: u8, rooms: [Room; ROOMS]) -> Table
 }
 
 // A table of no rooms, with nothing in it. It is not well formed.
+#[tactic(auto, unfolding(crate::specs::Tables::blank_table))]
 pub fn blank() -> Table
     ensures { result ≡ blank_table }
 {

@@ -1,6 +1,6 @@
 // A command: a word and its values, with single spaces between them.
 use crate::words::Word;
-use rules::Event;
+use rules::{Event, Kind};
 use table::{Message, Wire};
 
 // The values of a command.
@@ -10,7 +10,8 @@ const LARGE: usize = 100000000000;
 // After the I of IR or IW. No variant of an enum, since digits can make this number too, and are then read on as an I is.
 const INTENT: usize = LARGE + 1;
 
-// What a text asks for: no word where it is not understood, and zero for each value that is not there.
+// What a text asks for: no word where it is not understood, and zero for each value that is not there. The values are the same five for every
+// word, and no data of its own: a word whose values are missing is obeyed too.
 #[derive(Clone, Copy)]
 pub struct Command {
     pub word: Option<Word>,
@@ -39,10 +40,10 @@ impl Command {
     pub fn event(&self) -> Option<Event> {
         let [a, b, c, d, _] = self.values;
         let kind = match self.word? {
-            Word::Ask => rules::ASK,
-            Word::Upgrade => rules::UPGRADE,
-            Word::HandBack => rules::HANDBACK,
-            Word::Deliver => rules::DELIVER,
+            Word::Ask => Kind::Ask,
+            Word::Upgrade => Kind::Upgrade,
+            Word::HandBack => Kind::HandBack,
+            Word::Deliver => Kind::Deliver,
             Word::Event => {
                 return Some(Event {
                     kind: byte(a),
@@ -54,7 +55,7 @@ impl Command {
             _ => return None,
         };
         Some(Event {
-            kind,
+            kind: kind.into(),
             room: byte(a),
             other: byte(b),
             mode: byte(b),

@@ -90,7 +90,8 @@ fn push_rooms(line: &mut ArrayString<LINE>, rooms: &[Room], count: usize)
     push_modes(line, rooms);
 }
 
-// The answer line at the start of out, and its length; nothing where out is shorter than a line can be.
+// The answer line at the start of out, and its length; nothing where out is shorter than a line can be, and then 0, as `length_of` has it.
+// The number is any byte, and is shown as it is.
 #[tactic(auto, using(crate::proofs::Rooms::shown_rooms), unfolding(crate::specs::Written::written_of, crate::specs::Written::length_of, crate::specs::Answers::line_of))]
 pub fn write_line(number: u8, t: Table, out: &mut [u8]) -> usize
     ensures value { result ≡ length_of «number» t out.old }
