@@ -1,7 +1,8 @@
 // Reading a line: `n 3`, `a 1 R`, `u 1`, `h 1`, `d 0 1`, and every other byte string.
 #![tactic(auto)]
 
-ghost use Rattle.std.specs.Prelude.{◌≡◌, ◌<◌, [], IfSome, IfNone};
+ghost use Rattle.std.specs.Prelude.{◌≡◌, ◌<◌, [], IfSome, IfNone, eqb, position};
+ghost use Rattle.base.specs.Letters.{space};
 ghost use Rattle.rules.specs.Events.{code_of};
 ghost use Rattle.reading.specs.Lines.{digit_of, number_of, mode_of, before, behind, fresh_command, own_command, ask_command, deliver_command, command_of};
 
@@ -57,13 +58,20 @@ fn mode_of(text: &[u8]) -> Option<u8>
     }
 }
 
+// The place of the first space, if there is one.
+fn space_in(text: &[u8]) -> Option<usize>
+    ensures { result ≡ position (λ b. eqb b space) text.now }
+{
+    text.iter().position(|b| *b == b' ')
+}
+
 // The text before the first space, and the text behind it.
 fn parts(text: &[u8]) -> Option<(&[u8], &[u8])>
     ensures before { IfSome result (λ p. p.0.now ≡ before text.now) }
     ensures behind { IfSome result (λ p. p.1.now ≡ behind text.now) }
     ensures joined { IfNone result (behind text.now ≡ []) }
 {
-    let at = text.iter().position(|b| *b == b' ')?;
+    let at = space_in(text)?;
     Some((&text[..at], &text[at + 1..]))
 }
 

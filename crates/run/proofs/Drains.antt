@@ -45,8 +45,8 @@ unfolding after_of is_made is_draining
 after_none t e h d = rw (ne_eqb e.kind HANDBACK h, ne_eqb e.kind DELIVER d) refl
 
 module _ (t : Table) (e : Event) (r : Result Kind Refusal) (d : Decodes e.kind r) where
-  pub after-unknown : result_ok r ≡ None → None ≡ after_of t e
-  after-unknown h =
+  pub after_unknown : result_ok r ≡ None → None ≡ after_of t e
+  after_unknown h =
       let high = read-as-none e.kind r d h in
       after_none t e (λ k. omega (arith, high, k)) (λ k. omega (arith, high, k))
 
@@ -54,15 +54,15 @@ module _ (t : Table) (e : Event) (r : Result Kind Refusal) (d : Decodes e.kind r
     reads : code_of a ≡ e.kind
     reads = read-as e.kind r d a h
 
-    pub after-other : (a ≡ kind.Ask) ⊎ (a ≡ kind.Upgrade) → None ≡ after_of t e
-    after-other (inl p) = let k : ASK ≡ e.kind = rw p at reads in after_none t e (λ z. omega (arith, k, z)) (λ z. omega (arith, k, z))
-    after-other (inr p) = let k : UPGRADE ≡ e.kind = rw p at reads in after_none t e (λ z. omega (arith, k, z)) (λ z. omega (arith, k, z))
+    pub after_other : (a ≡ kind.Ask) ⊎ (a ≡ kind.Upgrade) → None ≡ after_of t e
+    after_other (inl p) = let k : ASK ≡ e.kind = rw p at reads in after_none t e (λ z. omega (arith, k, z)) (λ z. omega (arith, k, z))
+    after_other (inr p) = let k : UPGRADE ≡ e.kind = rw p at reads in after_none t e (λ z. omega (arith, k, z)) (λ z. omega (arith, k, z))
 
     -- a hand-back or a delivery is a step if it is accepted
-    pub after-made : (a ≡ kind.HandBack) ⊎ (a ≡ kind.Deliver) → (s : Result Table Refusal) → answer_in t s ≡ step_of t e → result_ok s ≡ after_of t e
+    pub after_made : (a ≡ kind.HandBack) ⊎ (a ≡ kind.Deliver) → (s : Result Table Refusal) → answer_in t s ≡ step_of t e → result_ok s ≡ after_of t e
     unfolding after_of drained_by is_made is_draining
-    after-made (inl p) s q = let k : HANDBACK ≡ e.kind = rw p at reads in rw (made-ok t s, q, ← k) refl
-    after-made (inr p) s q = let k : DELIVER ≡ e.kind = rw p at reads in rw (made-ok t s, q, ← k) refl
+    after_made (inl p) s q = let k : HANDBACK ≡ e.kind = rw p at reads in rw (made-ok t s, q, ← k) refl
+    after_made (inr p) s q = let k : DELIVER ≡ e.kind = rw p at reads in rw (made-ok t s, q, ← k) refl
 
 -- u is the table after the events before these, and k of them were steps
 pub record Draining (t : Table) (all : List Event) (u : Table) (k : ℕ) (rest : List Event) : Type 0 where

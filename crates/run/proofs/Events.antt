@@ -10,24 +10,24 @@ use Rattle.rules.specs.declared.Event.{Event}
 use Rattle.rules.specs.Step.{step_of, runs}
 use Rattle.run.specs.Runs.{events_of}
 
-pub events-none : (xs : List ℕ) → length xs < 4 → events_of xs ≡ []
+pub events_none : (xs : List ℕ) → length xs < 4 → events_of xs ≡ []
 unfolding events_of
-events-none [] h = refl
-events-none (a ∷ []) h = refl
-events-none (a ∷ b ∷ []) h = refl
-events-none (a ∷ b ∷ c ∷ []) h = refl
-events-none (a ∷ b ∷ c ∷ d ∷ xs) h = absurd (omega (arith, h))
+events_none [] h = refl
+events_none (a ∷ []) h = refl
+events_none (a ∷ b ∷ []) h = refl
+events_none (a ∷ b ∷ c ∷ []) h = refl
+events_none (a ∷ b ∷ c ∷ d ∷ xs) h = absurd (omega (arith, h))
 
 abbrev pub event_of : List ℕ → Event
 event_of xs = record { kind = slice_index_or xs 0 0; room = slice_index_or xs 1 0; other = slice_index_or xs 2 0; mode = slice_index_or xs 3 0 }
 
-pub events-more : (xs first rest : List ℕ) → first ≡ take 4 xs → rest ≡ drop 4 xs → length rest + 4 ≡ length xs → events_of xs ≡ event_of first ∷ events_of rest
+pub events_more : (xs first rest : List ℕ) → first ≡ take 4 xs → rest ≡ drop 4 xs → length rest + 4 ≡ length xs → events_of xs ≡ event_of first ∷ events_of rest
 unfolding events_of
-events-more [] f r p q h = absurd (omega (arith, h))
-events-more (a ∷ []) f r p q h = absurd (omega (arith, h))
-events-more (a ∷ b ∷ []) f r p q h = absurd (omega (arith, h))
-events-more (a ∷ b ∷ c ∷ []) f r p q h = absurd (omega (arith, h))
-events-more (a ∷ b ∷ c ∷ d ∷ xs) f r p q h = rw (p, q) refl
+events_more [] f r p q h = absurd (omega (arith, h))
+events_more (a ∷ []) f r p q h = absurd (omega (arith, h))
+events_more (a ∷ b ∷ []) f r p q h = absurd (omega (arith, h))
+events_more (a ∷ b ∷ c ∷ []) f r p q h = absurd (omega (arith, h))
+events_more (a ∷ b ∷ c ∷ d ∷ xs) f r p q h = rw (p, q) refl
 
 -- there are no more of them than bytes
 pub events-few : (xs : List ℕ) → length (events_of xs) ≤ length xs

@@ -20,6 +20,7 @@ pub struct Drained {
 }
 
 // The table after a delivery or a hand-back that is accepted; nothing where it is refused, or an event of another kind.
+#[tactic(auto, using(crate::proofs::Drains::after_unknown, crate::proofs::Drains::after_other, crate::proofs::Drains::after_made))]
 fn after(t: Table, e: Event) -> Option<Table>
     ensures { result ≡ after_of t e }
 {

@@ -16,6 +16,7 @@ impl<'a> Iterator for Events<'a> {
 
     ghost remaining = { item_count (λ s. events_of s.0.now) };
 
+    #[tactic(auto, using(crate::proofs::Events::events_none, crate::proofs::Events::events_more))]
     fn next(&mut self) -> Option<Event> {
         let (event, rest) = self.0.split_first_chunk::<EVENT_BYTES>()?;
         let [kind, room, other, mode] = *event;

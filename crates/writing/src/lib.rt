@@ -1,7 +1,7 @@
 // Writing an answer: the number, the token's room or `*`, the messages on the wires, and each room's held mode.
 #![tactic(auto)]
 
-ghost use Rattle.std.specs.Prelude.{◌≡◌, ◌+◌, ◌*◌, ◌≤◌, ◌++◌, ◌∷◌, length};
+ghost use Rattle.std.specs.Prelude.{◌≡◌, ◌+◌, ◌*◌, ◌≤◌, ◌++◌, ◌∷◌, length, position};
 ghost use Rattle.arrayvec.specs.ArrayString.{array_string_len};
 ghost use Rattle.base.specs.Letters.{space};
 ghost use Rattle.room.specs.Limits.{room_limit};
@@ -49,13 +49,20 @@ fn mode_text(m: u8) -> &'static str
     }
 }
 
+// The place of the first room that has the token, if one has.
+fn token_place(rooms: &[Room]) -> Option<usize>
+    ensures { result ≡ position (λ r. r.token) rooms.now }
+{
+    rooms.iter().position(|room| room.token)
+}
+
 // The first room that has the token; a star where none has.
 fn push_token(line: &mut ArrayString<LINE>, rooms: &[Room])
     requires { array_string_len line.old + word_limit ≤ LINE }
     ensures bytes { line.new.bytes ≡ line.old.bytes ++ token_text (token_room rooms.now) (length rooms.now) }
     ensures short { array_string_len line.new ≤ array_string_len line.old + word_limit }
 {
-    match rooms.iter().position(|room| room.token) {
+    match token_place(rooms) {
         Some(place) => push_number(line, place),
         None => line.push_str("*"),
     }
