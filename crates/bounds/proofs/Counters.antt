@@ -5,9 +5,10 @@ use native.Mathlib.Omega.{arith}
 use Rattle.base.specs.Choice.{by-test}
 use Rattle.base.specs.Sums.{same?}
 use Rattle.base.specs.Lists.{remove}
+use Rattle.std.specs.Prelude.{Some}
 use Rattle.room.specs.declared.Room.{Room}
 use Rattle.room.specs.Limits.{last_link}
-use Rattle.room.specs.Record.{with_modes, with_debt}
+use Rattle.room.specs.Record.{with_modes, with_debt, lender_of}
 use Rattle.room.specs.Owned.{owned}
 use Rattle.room.specs.Rules.{next_link, lent_to, left, remaining, passed_to, credited, tokened_by, reduced}
 use Rattle.table.specs.declared.Wire.{Wire}
@@ -109,15 +110,15 @@ module _ (n : ℕ) (old new : ℕ → Room) (messages : List Wire) (me : ℕ) (l
       (ap (λ (r : Room). r.counter) here ∙ passed-counter (old me) y)
 
   pub counters-settle : new me ≡ credited (old me) (owned (old me)) → Counters n old queue messages hand
-      → Counters n new queue (messages ++ (wire me (old me).lender (msg.Reduce (old me).link (owned (old me))) ∷ [])) hand
+      → Counters n new queue (messages ++ (wire me (lender_of (old me)) (msg.Reduce (old me).link (owned (old me))) ∷ [])) hand
   unfolding is_request
   counters-settle here =
-      kept (messages ++ (wire me (old me).lender (msg.Reduce (old me).link (owned (old me))) ∷ []))
-      (omega (arith, requests-sent messages me (old me).lender (msg.Reduce (old me).link (owned (old me)))))
+      kept (messages ++ (wire me (lender_of (old me)) (msg.Reduce (old me).link (owned (old me))) ∷ []))
+      (omega (arith, requests-sent messages me (lender_of (old me)) (msg.Reduce (old me).link (owned (old me)))))
       (ap (λ (r : Room). r.counter) here ∙ credited-counter (old me) (owned (old me)))
 
   pub counters-grant : (k a m l : ℕ) → k < length messages → get_or messages k no_wire ≡ wire a me (msg.Grant m l)
-      → new me ≡ with_debt (with_modes (old me) m 0) a m l
+      → new me ≡ with_debt (with_modes (old me) m 0) (Some a) m l
       → Counters n old queue messages hand → Counters n new queue (remove k messages ++ leaving_sent me (old me) a) hand
   counters-grant k a m l inside there here =
       kept (remove k messages ++ leaving_sent me (old me) a)

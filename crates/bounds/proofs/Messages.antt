@@ -9,7 +9,7 @@ use Rattle.modes.specs.Codes.{IR}
 use Rattle.modes.specs.Modes.{is_stronger}
 use Rattle.modes.proofs.Laws.{stronger-true}
 use Rattle.room.specs.declared.Room.{Room}
-use Rattle.room.specs.Record.{with_modes}
+use Rattle.room.specs.Record.{with_modes, lender_of}
 use Rattle.room.specs.Owned.{owned}
 use Rattle.room.specs.Rules.{next_link, lent_to, remaining, credited, tokened_by, reduced}
 use Rattle.table.specs.declared.Wire.{Wire}
@@ -87,7 +87,7 @@ module _ (n : ℕ) (old new : ℕ → Room) (messages : List Wire) (me : ℕ) (l
   -- the level that falls pays for the REDUCE
   pub messages-settle : owned (old me) ≤ IR → is_stronger (old me).credit (owned (old me)) ≡ true → new me ≡ credited (old me) (owned (old me))
       → Messages n old queue messages hand
-      → Messages n new queue (messages ++ (wire me (old me).lender (msg.Reduce (old me).link (owned (old me))) ∷ [])) hand
+      → Messages n new queue (messages ++ (wire me (lender_of (old me)) (msg.Reduce (old me).link (owned (old me))) ∷ [])) hand
   unfolding weight
   messages-settle small weaker here before = omega (
     arith,
@@ -96,7 +96,7 @@ module _ (n : ℕ) (old new : ℕ → Room) (messages : List Wire) (me : ℕ) (l
     ap (λ (r : Room). level r.credit) here,
     ap level (credited-credit (old me) (owned (old me))),
     level-falls (owned (old me)) (old me).credit small (stronger-true (old me).credit (owned (old me)) weaker),
-    weights-sent messages me (old me).lender (msg.Reduce (old me).link (owned (old me))),
+    weights-sent messages me (lender_of (old me)) (msg.Reduce (old me).link (owned (old me))),
   )
 
   -- whatever the loan; the weight of the GRANT pays for it and for a REDUCE to the old lender

@@ -11,6 +11,7 @@ use Rattle.base.specs.Tests.{clash}
 use Rattle.base.specs.Sums.{one, sum, sum-at, same?, below?}
 use Rattle.base.specs.Lists.{Mem, total}
 use Rattle.base.specs.Folds.{folds}
+use Rattle.std.specs.Prelude.{Some}
 use Rattle.modes.specs.Codes.{U, W}
 use Rattle.modes.proofs.Laws.{none-agrees}
 use Rattle.room.specs.declared.Room.{Room}
@@ -19,6 +20,7 @@ use Rattle.room.specs.Limits.{room_limit}
 use Rattle.room.specs.Record.{entry_at}
 use Rattle.room.specs.Owned.{owned, has_no_entries}
 use Rattle.room.proofs.Owning.{no-entries-of, owned-none}
+use Rattle.room.proofs.Lenders.{lender?, nobody-lends}
 use Rattle.table.specs.declared.Table.{Table}
 use Rattle.table.specs.declared.Queued.{Queued}
 use Rattle.table.specs.Tables.{room_at, queue_of}
@@ -73,17 +75,17 @@ module _ (n : ℕ) (rooms : ℕ → Room) (queue : List Queued) (i : Invariant n
       loan : entry_at (rooms p) c ≡ debt (rooms c) p
       loan = entry-debt p c lp low (λ e. entry (((i.sound.room p lp).entry c inside).own (sym e)))
 
-      lender : (rooms c).lender ≡ p
-      lender = ⊎_elim (λ e. e) (λ e. absurd (entry (ap (λ (e : Entry). e.mode) (loan ∙ debt-none (rooms c) p e)))) (same? (rooms c).lender p)
+      lender : (rooms c).lender ≡ Some p
+      lender = ⊎_elim (λ e. e) (λ e. absurd (entry (ap (λ (e : Entry). e.mode) (loan ∙ debt-none (rooms c) p e)))) (lender? (rooms c).lender p)
 
       owes : (entry_at (rooms p) c).mode ≡ (rooms c).credit
       owes = ap (λ (e : Entry). e.mode) (loan ∙ debt-here (rooms c) p lender)
 
       without : (rooms c).token ≡ false
-      without = split (rooms c).token (λ e. absurd (omega (arith, lender, (i.sound.room c low).token-free e))) (λ e. e)
+      without = split (rooms c).token (λ e. absurd (nobody-lends ((i.sound.room c low).token-free e) lender)) (λ e. e)
 
       higher : rank p < rank c
-      higher = rw lender at (i.clauses.tree.lender c low (λ e. omega (arith, lender)) (λ w m. absurd (Memᴰ.not-nil m)))
+      higher = rw lender at (i.clauses.tree.lender c low (λ e. nobody-lends e lender) (λ w m. absurd (Memᴰ.not-nil m)))
 
   -- with no such room there is no entry
   no-entries : (p : ℕ) → p < n → ((c : ℕ) → c < n → (rooms c).token ≡ false → rank p < rank c → owned (rooms c) ≡ 0) → has_no_entries (rooms p) ≡ true

@@ -8,9 +8,9 @@ use Rattle.base.specs.Choice.{by-test}
 use Rattle.base.specs.Tests.{and_left, and_right}
 use Rattle.base.specs.Sums.{one}
 use Rattle.base.specs.Lists.{remove}
+use Rattle.std.specs.Prelude.{Some, None}
 use Rattle.modes.specs.Modes.{can_lend}
 use Rattle.room.specs.declared.Room.{Room}
-use Rattle.room.specs.Limits.{nobody}
 use Rattle.room.specs.Record.{with_modes, with_debt}
 use Rattle.room.specs.Owned.{owned}
 use Rattle.room.specs.Rules.{lent, lent_to, granted, tokened, tokened_by, reduced}
@@ -132,7 +132,7 @@ module _ (n : ℕ) (rooms : ℕ → Room) (messages : List Wire) (me : ℕ) (roo
         (λ e. sent-lower named tokenless taken without)
 
   -- a lender that is left is paid from the credit that it had given
-  paid : (old me).credit ≡ 0 → (old me).lender ≡ nobody
+  paid : (old me).credit ≡ 0 → (old me).lender ≡ None
   paid = (inv.sound.room me low).none-nobody
 
   -- "GRANT"
@@ -147,10 +147,10 @@ module _ (n : ℕ) (rooms : ℕ → Room) (messages : List Wire) (me : ℕ) (roo
       })
     where
       lending : Room
-      lending = with_debt (with_modes room m 0) a m l
+      lending = with_debt (with_modes room m 0) (Some a) m l
 
-      now-lent : new lending me ≡ with_debt (with_modes (old me) m 0) a m l
-      now-lent = here lending ∙ sym (ap (λ (r : Room). with_debt (with_modes r m 0) a m l) at-me)
+      now-lent : new lending me ≡ with_debt (with_modes (old me) m 0) (Some a) m l
+      now-lent = here lending ∙ sym (ap (λ (r : Room). with_debt (with_modes r m 0) (Some a) m l) at-me)
 
   -- "TOKEN .. then serve": the heights are counted from its receiver
   token-lower : (m rest l : ℕ) → Oldest messages k a me (msg.Token m rest l) → Lower n rooms kept before (receive w a (msg.Token m rest l))

@@ -7,7 +7,7 @@ use native.Mathlib.Omega.{arith}
 use Rattle.base.specs.Choice.{by-test}
 use Rattle.room.specs.declared.Room.{Room}
 use Rattle.room.specs.declared.Changed.{Changed}
-use Rattle.room.specs.Record.{with_modes}
+use Rattle.room.specs.Record.{with_modes, lender_of}
 use Rattle.room.specs.Owned.{owned}
 use Rattle.room.specs.Rules.{credited}
 use Rattle.table.specs.declared.Wire.{Wire}
@@ -66,7 +66,7 @@ module _ (n : ℕ) (rooms : ℕ → Room) (kept : List Wire) (height : ℕ → �
       paid = credited w.room (owned w.room)
 
       reduce : Wire
-      reduce = wire w.me w.room.lender (msg.Reduce w.room.link (owned w.room))
+      reduce = wire w.me (lender_of w.room) (msg.Reduce w.room.link (owned w.room))
 
       old : ℕ → Room
       old = now rooms w

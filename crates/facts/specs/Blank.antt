@@ -5,9 +5,11 @@ use Rattle.std.proofs.lemmas.Bool.{false≢true, not-true}
 use Rattle.std.proofs.lemmas.List.{length-replicate, get_or-replicate}
 use Rattle.base.specs.Tests.{and_left, and_right}
 use Rattle.base.specs.Below.{all_below, all-at}
+use Rattle.std.specs.Prelude.{None}
 use Rattle.room.specs.declared.Room.{Room}
 use Rattle.room.specs.declared.Entry.{Entry}
-use Rattle.room.specs.Limits.{room_limit, nobody}
+use Rattle.room.proofs.Lenders.{is-none}
+use Rattle.room.specs.Limits.{room_limit}
 use Rattle.room.specs.Record.{no_entry, entry_at, blank_room}
 use Rattle.table.specs.declared.Wire.{Wire}
 use Rattle.table.specs.declared.Queued.{Queued}
@@ -95,8 +97,8 @@ blank-room r long h = λ i.
     toward : r.toward ≡ 0
     toward = eqb-true _ _ (search (and_left, and_right) depth 25 fits 4000)
 
-    lender : r.lender ≡ nobody
-    lender = eqb-true _ _ (search (and_left, and_right) depth 25 fits 4000)
+    lender : r.lender ≡ None
+    lender = is-none _ (search (and_left, and_right) depth 25 fits 4000)
 
     credit : r.credit ≡ 0
     credit = eqb-true _ _ (search (and_left, and_right) depth 25 fits 4000)

@@ -9,13 +9,15 @@ use borrow.Author.Tests.{ltb-true, leb-true, eqb-true, eqb-false, not-true, lt-l
 use Rattle.base.specs.Choice.{split}
 use Rattle.base.specs.Tests.{◌implies◌, and_left, and_right, implies-use, implies-show, same-use, same-show, or-use, or_left, or_right, clash, ◌also◌}
 use Rattle.base.specs.Below.{all-at, all_of}
+use Rattle.std.specs.Prelude.{Some, None, is_none}
 use Rattle.modes.specs.Codes.{U, W}
 use Rattle.room.specs.declared.Room.{Room}
 use Rattle.room.specs.declared.Entry.{Entry}
-use Rattle.room.specs.Limits.{room_limit, nobody}
-use Rattle.room.specs.Record.{entry_at}
+use Rattle.room.specs.Limits.{room_limit}
+use Rattle.room.specs.Record.{entry_at, lender_of}
 use Rattle.room.specs.Owned.{owned}
 use Rattle.room.proofs.Owning.{owned-either}
+use Rattle.room.proofs.Lenders.{is-none, is-some, none-is, lender-not, not-lender}
 use Rattle.table.specs.Formed.{entry_fine, room_fine, holds_rightly, owes_rightly, entries_fine}
 
 -- room c's entry for room j, in a table of n rooms
@@ -37,19 +39,19 @@ pub record RoomFacts (n c : ℕ) (r : Room) : Type 0 where
   pub credit-code : r.credit ≤ W
   -- "room numbers in range"
   pub toward-low : r.toward < n
-  pub lender-low : r.lender ≢ nobody → r.lender < n
+  pub lender-low : r.lender ≢ None → lender_of r < n
   -- "toward is oneself exactly for the room with the token"
   pub toward-token : r.toward ≡ c → r.token ≡ true
   pub token-toward : r.token ≡ true → r.toward ≡ c
   -- "no lender is oneself"
-  pub lender-other : r.lender ≢ c
+  pub lender-other : r.lender ≢ Some c
   -- "link number zero, and so has a room without a lender"
-  pub unlinked : r.lender ≡ nobody → r.link ≡ 0
+  pub unlinked : r.lender ≡ None → r.link ≡ 0
   -- "lender is nobody exactly when credit is none"
-  pub nobody-none : r.lender ≡ nobody → r.credit ≡ 0
-  pub none-nobody : r.credit ≡ 0 → r.lender ≡ nobody
+  pub nobody-none : r.lender ≡ None → r.credit ≡ 0
+  pub none-nobody : r.credit ≡ 0 → r.lender ≡ None
   -- "the room with the token has no lender"
-  pub token-free : r.token ≡ true → r.lender ≡ nobody
+  pub token-free : r.token ≡ true → r.lender ≡ None
   -- "U and W are held only with the token"
   pub U-token : r.held ≡ U → r.token ≡ true
   pub W-token : r.held ≡ W → r.token ≡ true
@@ -104,28 +106,28 @@ module _ (n c : ℕ) (r : Room) where
         wanted-code = leb-true _ _ (search (and_left, and_right) depth 25 fits 4000);
         credit-code = leb-true _ _ (search (and_left, and_right) depth 25 fits 4000);
         toward-low = ltb-true _ _ (search (and_left, and_right) depth 25 fits 4000);
-        lender-low = λ e. ⊎_elim (λ p. absurd (e (eqb-true _ _ p))) (λ p. ltb-true _ _ p) lender-in;
+        lender-low = λ e. ⊎_elim (λ p. absurd (e (is-none _ p))) (λ p. ltb-true _ _ p) lender-in;
         toward-token = λ e. sym toward-is ∙ eq-eqb _ _ e;
         token-toward = λ e. eqb-true _ _ (toward-is ∙ e);
-        lender-other = eqb-false _ _ (not-true _ (search (and_left, and_right) depth 25 fits 4000));
-        unlinked = gives r.lender nobody r.link 0 (search (and_left, and_right) depth 25 fits 4000);
-        nobody-none = λ e. eqb-true _ _ (sym credit-is ∙ eq-eqb _ _ e);
-        none-nobody = λ e. eqb-true _ _ (credit-is ∙ eq-eqb _ _ e);
-        token-free = λ e. eqb-true _ _ (implies-use r.token (eqb r.lender nobody) (search (and_left, and_right) depth 25 fits 4000) e);
+        lender-other = lender-not _ _ (not-true _ (search (and_left, and_right) depth 25 fits 4000));
+        unlinked = λ e. eqb-true _ _ (implies-use (is_none r.lender) (eqb r.link 0) (search (and_left, and_right) depth 25 fits 4000) (none-is _ e));
+        nobody-none = λ e. eqb-true _ _ (sym credit-is ∙ none-is _ e);
+        none-nobody = λ e. is-none _ (credit-is ∙ eq-eqb _ _ e);
+        token-free = λ e. is-none _ (implies-use r.token (is_none r.lender) (search (and_left, and_right) depth 25 fits 4000) e);
         U-token = λ e. strong (or_left (eqb r.held U) (eqb r.held W) (eq-eqb _ _ e));
         W-token = λ e. strong (or_right (eqb r.held U) (eqb r.held W) (eq-eqb _ _ e));
         upgrade = λ p q. together p q;
         entry = λ j l. entry-facts n c j (entry_at r j) (all-at room_limit (λ j. entry_fine n c j (entry_at r j)) (search (and_left, and_right) depth 25 fits 4000) j l);
       }
     where
-      lender-in : (eqb r.lender nobody ≡ true) ⊎ (ltb r.lender n ≡ true)
-      lender-in = or-use (eqb r.lender nobody) (ltb r.lender n) (search (and_left, and_right) depth 25 fits 4000)
+      lender-in : (is_none r.lender ≡ true) ⊎ (ltb (lender_of r) n ≡ true)
+      lender-in = or-use (is_none r.lender) (ltb (lender_of r) n) (search (and_left, and_right) depth 25 fits 4000)
 
       toward-is : eqb r.toward c ≡ r.token
       toward-is = same-use (eqb r.toward c) r.token (search (and_left, and_right) depth 25 fits 4000)
 
-      credit-is : eqb r.lender nobody ≡ eqb r.credit 0
-      credit-is = same-use (eqb r.lender nobody) (eqb r.credit 0) (search (and_left, and_right) depth 25 fits 4000)
+      credit-is : is_none r.lender ≡ eqb r.credit 0
+      credit-is = same-use (is_none r.lender) (eqb r.credit 0) (search (and_left, and_right) depth 25 fits 4000)
 
       strong : (eqb r.held U || eqb r.held W) ≡ true → r.token ≡ true
       strong = implies-use (eqb r.held U || eqb r.held W) r.token (search (and_left, and_right) depth 25 fits 4000)
@@ -150,17 +152,17 @@ module _ (n c : ℕ) (r : Room) where
       also together)
       also (le-leb r.credit W f.credit-code
       also lender-in
-      also rw (ne_eqb r.lender c f.lender-other) refl
-      also given r.lender nobody r.link 0 f.unlinked
-      also same-show (eqb r.lender nobody) (eqb r.credit 0) credit-is
-      also implies-show r.token (eqb r.lender nobody) (λ e. eq-eqb _ _ (f.token-free e)))
+      also rw (not-lender r.lender c f.lender-other) refl
+      also implies-show (is_none r.lender) (eqb r.link 0) (λ e. eq-eqb _ _ (f.unlinked (is-none _ e)))
+      also same-show (is_none r.lender) (eqb r.credit 0) credit-is
+      also implies-show r.token (is_none r.lender) (λ e. none-is _ (f.token-free e)))
       also all_of room_limit (λ j. entry_fine n c j (entry_at r j)) (λ j l. entry-test n c j (entry_at r j) (f.entry j l))
     where
-      lender-in : (eqb r.lender nobody || ltb r.lender n) ≡ true
+      lender-in : (is_none r.lender || ltb (lender_of r) n) ≡ true
       lender-in =
-          split (eqb r.lender nobody)
-          (λ e. or_left (eqb r.lender nobody) (ltb r.lender n) e)
-          (λ e. or_right (eqb r.lender nobody) (ltb r.lender n) (lt-ltb _ _ (f.lender-low (eqb-false _ _ e))))
+          split (is_none r.lender)
+          (λ e. or_left (is_none r.lender) (ltb (lender_of r) n) e)
+          (λ e. or_right (is_none r.lender) (ltb (lender_of r) n) (lt-ltb _ _ (f.lender-low (is-some _ e))))
 
       toward-is : eqb r.toward c ≡ r.token
       toward-is =
@@ -168,11 +170,11 @@ module _ (n c : ℕ) (r : Room) where
           (λ e. e ∙ sym (f.toward-token (eqb-true _ _ e)))
           (λ e. split r.token (λ k. clash (eq-eqb _ _ (f.token-toward k)) e) (λ k. e ∙ sym k))
 
-      credit-is : eqb r.lender nobody ≡ eqb r.credit 0
+      credit-is : is_none r.lender ≡ eqb r.credit 0
       credit-is =
-          split (eqb r.lender nobody)
-          (λ e. e ∙ sym (eq-eqb _ _ (f.nobody-none (eqb-true _ _ e))))
-          (λ e. split (eqb r.credit 0) (λ k. clash (eq-eqb _ _ (f.none-nobody (eqb-true _ _ k))) e) (λ k. e ∙ sym k))
+          split (is_none r.lender)
+          (λ e. e ∙ sym (eq-eqb _ _ (f.nobody-none (is-none _ e))))
+          (λ e. split (eqb r.credit 0) (λ k. clash (none-is _ (f.none-nobody (eqb-true _ _ k))) e) (λ k. e ∙ sym k))
 
       strong : (eqb r.held U || eqb r.held W) ≡ true → r.token ≡ true
       strong h = ⊎_elim (λ e. f.U-token (eqb-true _ _ e)) (λ e. f.W-token (eqb-true _ _ e)) (or-use (eqb r.held U) (eqb r.held W) h)

@@ -2,7 +2,7 @@
 use Rattle.std.specs.Prelude.{◌≡◌, refl, true, false, ℕ, ◌<◌, eqb, length, replicate, set}
 use Rattle.std.proofs.Common.{eqb-true}
 use Rattle.room.specs.Limits.{room_limit}
-use Rattle.room.specs.Record.{entry_of, blank_room, with_modes, with_token}
+use Rattle.room.specs.Record.{entry_of, blank_room, with_modes, with_token, is_lender}
 use Rattle.room.specs.Owned.{larger, strongest, owned}
 use Rattle.room.specs.Rules.{next_link, is_worn, lent_to, lent, settled}
 use Rattle.modes.specs.Codes.{IR}
@@ -44,7 +44,7 @@ bare_event = delivers 0 1
 -- The delivery is accepted, and puts a GRANT on the way to the room with the token.
 pub bare-not-kept : Shaped bare_table × (well_formed bare_table ≡ true) × ((step_of bare_table bare_event).«number» ≡ 0)
     × (well_formed (step_of bare_table bare_event).table ≡ false)
-unfolding bare_table bare_event well_formed sizes_fit rooms_fine room_fine holds_rightly owes_rightly entries_fine entry_fine is_blank_room is_blank_entry queue_fine queued_fine is_blank_queued
+unfolding bare_table bare_event well_formed sizes_fit rooms_fine room_fine holds_rightly owes_rightly is_lender entries_fine entry_fine is_blank_room is_blank_entry queue_fine queued_fine is_blank_queued
     wires_fine wire_fine message_fine is_granted names_rightly is_blank_wire is_nothing tokens is_token names_fine names is_named_in due sum total
     step_of refusal refusal_as first is_found any_worn oldest_of oldest_in made delivered outcome after remove padded
     receive take_request agrees is_stronger can_lend larger strongest owned lend lent lent_to next_link is_worn entry_of settle settled send send_out

@@ -6,11 +6,12 @@ use Rattle.std.proofs.lemmas.Bool.{eqb-false, not-true}
 use Rattle.base.specs.Choice.{by-test}
 use Rattle.base.specs.Tests.{and_left, and_right, clash}
 use Rattle.base.specs.Sums.{one}
+use Rattle.std.specs.Prelude.{Some, None}
 use Rattle.modes.specs.Codes.{W}
 use Rattle.modes.specs.Modes.{can_lend}
 use Rattle.modes.proofs.Laws.{small-code, small-weak}
 use Rattle.room.specs.declared.Room.{Room}
-use Rattle.room.specs.Limits.{room_limit, nobody}
+use Rattle.room.specs.Limits.{room_limit}
 use Rattle.room.specs.Record.{entry_of, with_modes, with_token, with_debt, set_entry}
 use Rattle.room.specs.Owned.{owned}
 use Rattle.room.specs.Rules.{lent, lent_to, leaving, granted, lifted, tokened_by, tokened, reduced}
@@ -107,7 +108,7 @@ module _ (n : ℕ) (rooms : ℕ → Room) (kept : List Wire) (w : Work) (from : 
         code = omega (arith, small-code m grant.weak)
 
         lending : Room
-        lending = with_debt (with_modes w.room m 0) from m l
+        lending = with_debt (with_modes w.room m 0) (Some from) m l
 
     -- while the token is in hand no room has it
     tokenless : At n rooms kept w (only w.me) 1 → w.room.token ≡ false
@@ -137,14 +138,14 @@ module _ (n : ℕ) (rooms : ℕ → Room) (kept : List Wire) (w : Work) (from : 
         entered-facts : RoomFacts n w.me entered
         entered-facts = entry-set-facts n w.me w.room facts from rest l a.small a.long from_low apart arrives.rest-code
 
-        with-token : RoomFacts n w.me (with_token (with_debt entered nobody 0 0) true w.me)
+        with-token : RoomFacts n w.me (with_token (with_debt entered None 0 0) true w.me)
         with-token =
-            gained-facts n w.me (with_debt entered nobody 0 0) (free-facts n w.me entered entered-facts a.low a.small) a.low refl
+            gained-facts n w.me (with_debt entered None 0 0) (free-facts n w.me entered entered-facts a.low a.small) a.low refl
 
         rooted-facts : RoomFacts n w.me rooted
         rooted-facts =
-            counter-facts n w.me (with_modes (with_token (with_debt entered nobody 0 0) true w.me) m 0)
-            (modes-facts n w.me (with_token (with_debt entered nobody 0 0) true w.me) with-token m 0 arrives.code (omega arith) (λ e. refl) (λ e. refl) (λ p z. absurd (z refl)))
+            counter-facts n w.me (with_modes (with_token (with_debt entered None 0 0) true w.me) m 0)
+            (modes-facts n w.me (with_token (with_debt entered None 0 0) true w.me) with-token m 0 arrives.code (omega arith) (λ e. refl) (λ e. refl) (λ p z. absurd (z refl)))
             (lifted w.room.counter l)
 
         long : length (set w.room.entries from (entry_of rest l)) ≡ room_limit

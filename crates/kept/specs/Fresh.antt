@@ -11,6 +11,7 @@ use Rattle.std.proofs.Math.Seq.{get_or-set_other}
 use Rattle.base.specs.Sums.{one, sum_bound, sum-differ}
 use Rattle.base.specs.Lists.{total}
 use Rattle.base.specs.Arrays.{padded}
+use Rattle.std.proofs.lemmas.Option.{none-some}
 use Rattle.room.specs.declared.Room.{Room}
 use Rattle.room.specs.Limits.{room_limit}
 use Rattle.room.specs.Record.{no_entry, no_room, blank_room, entry_at, with_token}
@@ -60,7 +61,7 @@ module _ (n : ℕ) (some : 1 ≤ n) (small : n ≤ room_limit) where
         lender-low = λ e. absurd (e refl);
         toward-token = λ e. refl;
         token-toward = λ e. refl;
-        lender-other = λ e. omega arith;
+        lender-other = λ e. none-some _ e;
         unlinked = λ e. refl;
         nobody-none = λ e. refl;
         none-nobody = λ e. refl;
@@ -81,7 +82,7 @@ module _ (n : ℕ) (some : 1 ≤ n) (small : n ≤ room_limit) where
         lender-low = λ e. absurd (e refl);
         toward-token = λ e. absurd (ne (sym e));
         token-toward = λ e. absurd (false≢true e);
-        lender-other = λ e. omega arith;
+        lender-other = λ e. none-some _ e;
         unlinked = λ e. refl;
         nobody-none = λ e. refl;
         none-nobody = λ e. refl;

@@ -2,6 +2,7 @@
 use Rattle.std.specs.Prelude.{◌≡◌, ◌≢◌, Bool, true, false, List, ℕ, ◌≤◌, ◌<◌, length, set}
 use Rattle.std.proofs.Math.Path.{refl, ap}
 use Rattle.std.proofs.Common.{◌∙◌, arith, length-set}
+use Rattle.std.specs.Prelude.{Some}
 use Rattle.modes.specs.Codes.{R, U, W}
 use Rattle.modes.specs.Modes.{agrees, can_lend}
 use Rattle.modes.proofs.Laws.{lends_some, lends-small, lends-codes, not-lent-low}
@@ -74,7 +75,7 @@ module _ (n : ℕ) (rooms : ℕ → Room) (kept : List Wire) (w : Work) (y m : �
       after = passed_to w.room y
 
       owing : Room
-      owing = with_debt (left w.room y) y (remaining w.room y) (next_link w.room.counter)
+      owing = with_debt (left w.room y) (Some y) (remaining w.room y) (next_link w.room.counter)
 
       -- the record without its entry for y
       cleared : RoomFacts n w.me (set_entry w.room y no_entry)

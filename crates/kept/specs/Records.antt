@@ -1,14 +1,16 @@
 -- A room's record with one part changed is as it should be, if the new part is.
 use Rattle.std.specs.Prelude.{◌≡◌, ◌≢◌, ◌⊎◌, Bool, true, false, ℕ, ◌≤◌, ◌<◌, eqb, length}
-use Rattle.std.proofs.Math.Path.{refl}
+use Rattle.std.proofs.Math.Path.{refl, sym}
 use Rattle.std.proofs.Common.{inl, inr, arith, get_or-set_same, get_or-set_other}
 use Rattle.std.proofs.lemmas.Bool.{false≢true, eqb-false}
 use Rattle.base.specs.Choice.{by-test}
 use Rattle.base.specs.Tests.{clash}
 use Rattle.base.specs.Sums.{same?}
+use Rattle.std.specs.Prelude.{Option, Some, None, unwrap_or}
+use Rattle.std.proofs.lemmas.Option.{none-some, same_Some}
 use Rattle.modes.specs.Codes.{U, W}
 use Rattle.room.specs.declared.Room.{Room}
-use Rattle.room.specs.Limits.{room_limit, nobody}
+use Rattle.room.specs.Limits.{room_limit}
 use Rattle.room.specs.Record.{no_entry, entry_of, entry_at, with_modes, with_token, with_debt, with_counter, set_entry}
 use Rattle.facts.specs.Rooms.{EntryFacts, RoomFacts}
 
@@ -25,17 +27,17 @@ record TowardFacts (n c toward : ℕ) (token : Bool) : Type 0 where
   token-toward : token ≡ true → toward ≡ c
 
 -- what room c of n owes
-record DebtFacts (n c lender credit link : ℕ) : Type 0 where
+record DebtFacts (n c : ℕ) (lender : Option ℕ) (credit link : ℕ) : Type 0 where
   credit-code : credit ≤ W
-  lender-low : lender ≢ nobody → lender < n
-  lender-other : lender ≢ c
-  unlinked : lender ≡ nobody → link ≡ 0
-  nobody-none : lender ≡ nobody → credit ≡ 0
-  none-nobody : credit ≡ 0 → lender ≡ nobody
+  lender-low : lender ≢ None → unwrap_or lender 255 < n
+  lender-other : lender ≢ Some c
+  unlinked : lender ≡ None → link ≡ 0
+  nobody-none : lender ≡ None → credit ≡ 0
+  none-nobody : credit ≡ 0 → lender ≡ None
 
 -- a record is as it should be by its parts, and by what ties the token to the lender and to the held mode
 joined : {n c : ℕ} (r : Room) → ModeFacts r.held r.wanted → TowardFacts n c r.toward r.token
-    → DebtFacts n c r.lender r.credit r.link → (r.token ≡ true → r.lender ≡ nobody) → (r.held ≡ U → r.token ≡ true)
+    → DebtFacts n c r.lender r.credit r.link → (r.token ≡ true → r.lender ≡ None) → (r.held ≡ U → r.token ≡ true)
     → (r.held ≡ W → r.token ≡ true) → ((j : ℕ) → j < room_limit → EntryFacts n c j (entry_at r j)) → RoomFacts n c r
 joined r modes toward debt free with_u with_w entries =
     record {
@@ -88,38 +90,38 @@ module _ (n c : ℕ) (r : Room) (f : RoomFacts n c r) where
   counter-facts k = joined (with_counter r k) modes toward debt f.token-free f.U-token f.W-token f.entry
 
   -- no lender
-  pub free-facts : c < n → n ≤ room_limit → RoomFacts n c (with_debt r nobody 0 0)
-  free-facts low small = joined (with_debt r nobody 0 0) modes toward none (λ e. refl) f.U-token f.W-token f.entry
+  pub free-facts : c < n → n ≤ room_limit → RoomFacts n c (with_debt r None 0 0)
+  free-facts low small = joined (with_debt r None 0 0) modes toward none (λ e. refl) f.U-token f.W-token f.entry
     where
-      none : DebtFacts n c nobody 0 0
+      none : DebtFacts n c None 0 0
       none =
           record {
             credit-code = omega arith;
             lender-low = λ e. absurd (e refl);
-            lender-other = λ e. omega arith;
+            lender-other = λ e. none-some _ e;
             unlinked = λ e. refl;
             nobody-none = λ e. refl;
             none-nobody = λ e. refl;
           }
 
   -- a lender, for a room without the token
-  pub owing-facts : (l m k : ℕ) → n ≤ room_limit → l < n → l ≢ c → 1 ≤ m → m ≤ W → r.token ≡ false → RoomFacts n c (with_debt r l m k)
+  pub owing-facts : (l m k : ℕ) → n ≤ room_limit → l < n → l ≢ c → 1 ≤ m → m ≤ W → r.token ≡ false → RoomFacts n c (with_debt r (Some l) m k)
   owing-facts l m k small low other some code without =
-      joined (with_debt r l m k) modes toward owed (λ e. clash e without) f.U-token f.W-token f.entry
+      joined (with_debt r (Some l) m k) modes toward owed (λ e. clash e without) f.U-token f.W-token f.entry
     where
-      owed : DebtFacts n c l m k
+      owed : DebtFacts n c (Some l) m k
       owed =
           record {
             credit-code = code;
             lender-low = λ e. low;
-            lender-other = other;
-            unlinked = λ e. absurd (omega arith);
-            nobody-none = λ e. absurd (omega arith);
+            lender-other = λ e. other (same_Some _ _ e);
+            unlinked = λ e. absurd (none-some _ (sym e));
+            nobody-none = λ e. absurd (none-some _ (sym e));
             none-nobody = λ e. absurd (omega arith);
           }
 
   -- the token, for a room without a lender
-  pub gained-facts : c < n → r.lender ≡ nobody → RoomFacts n c (with_token r true c)
+  pub gained-facts : c < n → r.lender ≡ None → RoomFacts n c (with_token r true c)
   gained-facts low free =
       joined (with_token r true c) modes (record { toward-low = low; toward-token = λ e. refl; token-toward = λ e. refl }) debt (λ e. free) (λ e. refl)
       (λ e. refl) f.entry

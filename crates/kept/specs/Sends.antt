@@ -2,11 +2,13 @@
 use Rattle.std.proofs.Math.Path.{◌≡◌, refl}
 use Rattle.std.specs.Prelude.{◌≢◌, Bool, false, List, ℕ, ◌≤◌, ◌<◌}
 use native.Mathlib.Omega.{arith}
+use Rattle.std.specs.Prelude.{Some, None}
+use Rattle.room.proofs.Lenders.{lends-other}
+use Rattle.room.specs.Record.{lender_of}
 use Rattle.modes.specs.Codes.{W}
 use Rattle.std.specs.Prelude.{Option}
 use Rattle.room.specs.declared.Room.{Room}
 use Rattle.room.specs.declared.Reduce.{Reduce}
-use Rattle.room.specs.Limits.{nobody}
 use Rattle.room.specs.Rules.{leaving}
 use Rattle.table.specs.declared.Wire.{Wire}
 use Rattle.table.specs.declared.Message.TheVariants as msg
@@ -60,8 +62,8 @@ module _ (n : ℕ) (rooms : ℕ → Room) (kept : List Wire) (w : Work) (y : ℕ
 
 -- "if b has a lender other than a, it sends that lender REDUCE to none under the old link"
 pub put-leaving : (n : ℕ) (rooms : ℕ → Room) (kept : List Wire) (w : Work) (r : Room) (a : ℕ)
-    → (r.lender ≢ nobody → r.lender < n) → r.lender ≢ w.me → Whole n rooms kept w → Whole n rooms kept (send_out w (leaving r a))
+    → (r.lender ≢ None → lender_of r < n) → r.lender ≢ Some w.me → Whole n rooms kept w → Whole n rooms kept (send_out w (leaving r a))
 unfolding send_out
 put-leaving n rooms kept w r a low other k =
     leaving-send r a (λ (s : Option Reduce). Whole n rooms kept (send_out w s)) (λ e. k)
-    (λ e. put-reduce n rooms kept w r.lender (low e) other r.link 0 (omega arith) k)
+    (λ e. put-reduce n rooms kept w (lender_of r) (low e) (lends-other r w.me e other) r.link 0 (omega arith) k)

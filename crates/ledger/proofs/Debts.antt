@@ -1,16 +1,18 @@
 -- What a room owes once all is delivered: what its record says, or what the last GRANT or TOKEN under way to it says.
 use Rattle.std.specs.Prelude.{◌≡◌, refl, ◌≢◌, ◌⊎◌, Bool, true, false, List, [], ◌∷◌, ℕ}
-use Rattle.std.proofs.Common.{sym, ◌∙◌, inl, inr, true≢false, arith, le-ltb, eq-eqb, ne_eqb}
+use Rattle.std.proofs.Common.{sym, ◌∙◌, inl, inr, true≢false, arith, le-ltb, ne_eqb}
 use Rattle.std.proofs.Math.Bool.{and-false}
 use mathlib.Core.List.Memᴰ
 use Rattle.base.specs.Choice.{split}
 use Rattle.base.specs.Lists.{Mem}
 use Rattle.base.specs.Folds.{folds, folds-still}
+use Rattle.std.specs.Prelude.{Some}
 use Rattle.modes.specs.Codes.{none}
 use Rattle.modes.proofs.Laws.{stronger-larger}
 use Rattle.room.specs.declared.Room.{Room}
 use Rattle.room.specs.declared.Entry.{Entry}
 use Rattle.room.specs.Record.{no_entry}
+use Rattle.room.proofs.Lenders.{is-lender, not-lender}
 use Rattle.table.specs.declared.Wire.{Wire}
 use Rattle.table.specs.declared.Message.{Message}
 use Rattle.table.specs.declared.Message.TheVariants as msg
@@ -98,13 +100,13 @@ owes-kept p c messages h e =
 
 -- what a record says that it owes
 module _ (r : Room) (p : ℕ) where
-  pub debt-here : r.lender ≡ p → debt r p ≡ record { mode = r.credit; link = r.link }
+  pub debt-here : r.lender ≡ Some p → debt r p ≡ record { mode = r.credit; link = r.link }
   unfolding debt
-  debt-here h = simp (eq-eqb r.lender p h)
+  debt-here h = simp (is-lender r.lender p h)
 
-  pub debt-none : r.lender ≢ p → debt r p ≡ no_entry
+  pub debt-none : r.lender ≢ Some p → debt r p ≡ no_entry
   unfolding debt
-  debt-none h = simp (ne_eqb r.lender p h)
+  debt-none h = simp (not-lender r.lender p h)
 
 -- a REDUCE leaves an entry under another link number, and no entry
 pub flush-other : (e : Entry) (l m : ℕ) → e.link ≢ l → flush e (msg.Reduce l m) ≡ e

@@ -6,11 +6,13 @@ use native.Mathlib.Omega.{arith}
 use Rattle.std.proofs.Math.ListN.{get_or-append}
 use Rattle.base.specs.Lists.{Mem, mem-snoc, mem-at, remove}
 use Rattle.std.specs.Prelude.{Option}
+use Rattle.std.specs.Prelude.{Some, None}
 use Rattle.room.specs.declared.Room.{Room}
 use Rattle.room.specs.declared.Reduce.{Reduce}
-use Rattle.room.specs.Limits.{room_limit, nobody}
-use Rattle.room.specs.Record.{with_modes, with_debt}
+use Rattle.room.specs.Limits.{room_limit}
+use Rattle.room.specs.Record.{with_modes, with_debt, lender_of}
 use Rattle.room.specs.Rules.{credited, tokened_by}
+use Rattle.room.proofs.Lenders.{lends-other}
 use Rattle.table.specs.declared.Wire.{Wire}
 use Rattle.table.specs.declared.Message.{Message}
 use Rattle.table.specs.declared.Message.TheVariants as msg
@@ -55,16 +57,16 @@ module _ (n : ℕ) (old new : ℕ → Room) (messages : List Wire) (me : ℕ) (l
 
   -- the room that owes its old lender nothing any more, and the REDUCE that says so
   abbrev paid : ℕ → Room
-  paid = changed old me (with_debt (old me) nobody 0 0)
+  paid = changed old me (with_debt (old me) None 0 0)
 
   abbrev reduce : Wire
-  reduce = wire me (old me).lender (msg.Reduce (old me).link 0)
+  reduce = wire me (lender_of (old me)) (msg.Reduce (old me).link 0)
 
-  paid-me : paid me ≡ with_debt (old me) nobody 0 0
-  paid-me = changed-same old me (with_debt (old me) nobody 0 0)
+  paid-me : paid me ≡ with_debt (old me) None 0 0
+  paid-me = changed-same old me (with_debt (old me) None 0 0)
 
   paid_other : (c : ℕ) → c ≢ me → paid c ≡ old c
-  paid_other c e = changed-other old me (with_debt (old me) nobody 0 0) c e
+  paid_other c e = changed-other old me (with_debt (old me) None 0 0) c e
 
   new-other : (c : ℕ) → c ≢ me → new c ≡ paid c
   new-other c e = others c e ∙ sym (paid_other c e)
@@ -77,29 +79,29 @@ module _ (n : ℕ) (old new : ℕ → Room) (messages : List Wire) (me : ℕ) (l
       reduces : (x y : ℕ) → msg.Reduce (old me).link 0 ≡ msg.Grant x y → ⊥
       reduces x y z = let q : ◌≡◌ {A = ℕ} 0 1 = cc in absurd (omega arith)
 
-  pay-ledger : (old me).lender ≢ nobody → Ledger n paid (messages ++ (reduce ∷ []))
+  pay-ledger : (old me).lender ≢ None → Ledger n paid (messages ++ (reduce ∷ []))
   unfolding credited
   pay-ledger some =
       ledger-pay n old paid messages me paid_other ledger 0 paid-me (above (old me).credit (λ e. some (facts.none-nobody e)))
-      (facts.lender-low some) facts.lender-other small links
+      (facts.lender-low some) (lends-other (old me) me some facts.lender-other) small links
     where
       above : (c : ℕ) → c ≢ 0 → 0 < c
       above c e = omega arith
 
-  pay-links : (old me).lender ≢ nobody → Links n paid (messages ++ (reduce ∷ []))
+  pay-links : (old me).lender ≢ None → Links n paid (messages ++ (reduce ∷ []))
   unfolding credited
   pay-links some = links-pay n old paid messages me paid_other links 0 paid-me (facts.lender-low some) low small senders
 
   -- a lender that stays, and one that is paid back
-  leaving-both : (((old me).lender ≡ nobody) ⊎ ((old me).lender ≡ a) → Both (remove k messages))
-      → ((old me).lender ≢ nobody → Both (remove k (messages ++ (reduce ∷ [])))) → Both (remove k messages ++ leaving_sent me (old me) a)
+  leaving-both : (((old me).lender ≡ None) ⊎ ((old me).lender ≡ Some a) → Both (remove k messages))
+      → ((old me).lender ≢ None → Both (remove k (messages ++ (reduce ∷ [])))) → Both (remove k messages ++ leaving_sent me (old me) a)
   unfolding leaving_sent
   leaving-both f g =
       leaving-send (old me) a (λ (s : Option Reduce). Both (remove k messages ++ sent_by me s))
       (λ b. rw (append-nil (remove k messages)) (f b)) (λ b. rw (← remove-front messages reduce k o.low) (g b))
 
   -- "GRANT"
-  pub granted-both : (j l : ℕ) → m ≡ msg.Grant j l → new me ≡ with_debt (with_modes (old me) j 0) a j l
+  pub granted-both : (j l : ℕ) → m ≡ msg.Grant j l → new me ≡ with_debt (with_modes (old me) j 0) (Some a) j l
       → Both (remove k messages ++ leaving_sent me (old me) a)
   granted-both j l e here =
       leaving-both
@@ -115,8 +117,8 @@ module _ (n : ℕ) (old new : ℕ → Room) (messages : List Wire) (me : ℕ) (l
       later : Oldest (messages ++ (reduce ∷ [])) k a me m
       later = oldest-front messages reduce k a me m o
 
-      now : new me ≡ with_debt (with_modes (paid me) j 0) a j l
-      now = here ∙ sym (ap (λ (r : Room). with_debt (with_modes r j 0) a j l) paid-me)
+      now : new me ≡ with_debt (with_modes (paid me) j 0) (Some a) j l
+      now = here ∙ sym (ap (λ (r : Room). with_debt (with_modes r j 0) (Some a) j l) paid-me)
 
   -- "TOKEN"
   pub tokened-both : (j rest l : ℕ) → m ≡ msg.Token j rest l → new me ≡ tokened_by (old me) me a j rest l

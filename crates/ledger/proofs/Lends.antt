@@ -3,16 +3,19 @@ use Rattle.std.specs.Prelude.{◌≡◌, ◌≢◌, ◌⊎◌, true, false, List
 use Rattle.std.proofs.Math.Path.{refl, sym, ap}
 use Rattle.std.proofs.Common.{◌∙◌, inl, inr, ⊎_elim, true≢false, arith, get_or-set_same, get_or-set_other}
 use borrow.Author.Tests.{lt-ltb, eq-eqb, ne_eqb}
+use Rattle.std.proofs.lemmas.Option.{none-some, same_Some}
 use Rattle.base.specs.Choice.{split}
 use Rattle.base.specs.Sums.{same?}
 use Rattle.base.specs.Lists.{Mem}
 use Rattle.base.specs.Folds.{folds, folds-still}
+use Rattle.std.specs.Prelude.{Some, None}
 use Rattle.modes.proofs.Laws.{stronger-larger}
 use Rattle.room.specs.declared.Room.{Room}
 use Rattle.room.specs.declared.Entry.{Entry}
-use Rattle.room.specs.Limits.{room_limit, nobody}
-use Rattle.room.specs.Record.{no_entry, entry_of, entry_at, with_debt}
+use Rattle.room.specs.Limits.{room_limit}
+use Rattle.room.specs.Record.{no_entry, entry_of, entry_at, with_debt, lender_of}
 use Rattle.room.specs.Rules.{next_link, lent_to, credited}
+use Rattle.room.proofs.Lenders.{lends-low}
 use Rattle.table.specs.declared.Wire.{Wire}
 use Rattle.table.specs.declared.Message.{Message}
 use Rattle.table.specs.declared.Message.TheVariants as msg
@@ -103,10 +106,13 @@ module _ (n : ℕ) (old new : ℕ → Room) (messages : List Wire) (me : ℕ) (o
         go (inr e) f = pair-old p c (inl e) (ap (λ (r : Room). entry_at r c) (others p e)) (ledger p c lp lc ne)
 
   -- What is owed falls to m, and the lender is sent a REDUCE: where no newer loan is under way the lender's entry falls with it
-  module _ (m : ℕ) (here : new me ≡ credited (old me) m) (falls : m < (old me).credit) (low : (old me).lender < n) (other : (old me).lender ≢ me)
+  module _ (m : ℕ) (here : new me ≡ credited (old me) m) (falls : m < (old me).credit) (low : lender_of (old me) < n) (other : lender_of (old me) ≢ me)
       (small : n ≤ room_limit) (links : Links n old messages) where
     abbrev lender : ℕ
-    lender = (old me).lender
+    lender = lender_of (old me)
+
+    owner : (old me).lender ≡ Some lender
+    owner = lends-low (old me) n low small
 
     abbrev reduce : Wire
     reduce = wire me lender (msg.Reduce (old me).link m)
@@ -121,15 +127,15 @@ module _ (n : ℕ) (old new : ℕ → Room) (messages : List Wire) (me : ℕ) (o
     debt-now =
         rw here
         (credited-either (old me) m (λ (r : Room). debt r lender ≡ entry_of m (old me).link)
-        (λ z. debt-none (with_debt (old me) nobody m 0) lender (λ e. omega arith) ∙ sym (simp (eq-eqb m 0 z)))
-        (λ z. debt-here (with_debt (old me) lender m (old me).link) lender refl ∙ sym (simp (ne_eqb m 0 z))))
+        (λ z. debt-none (with_debt (old me) None m 0) lender (none-some lender) ∙ sym (simp (eq-eqb m 0 z)))
+        (λ z. debt-here (with_debt (old me) (old me).lender m (old me).link) lender owner ∙ sym (simp (ne_eqb m 0 z))))
 
     -- it says of no other that something is owed
     debt-other : (p : ℕ) → p < n → p ≢ lender → debt (new me) p ≡ no_entry
     debt-other p l e =
         rw here
-        (credited-either (old me) m (λ (r : Room). debt r p ≡ no_entry) (λ e. debt-none (with_debt (old me) nobody m 0) p (λ k. omega arith))
-        (λ z. debt-none (with_debt (old me) lender m (old me).link) p (λ k. e (sym k))))
+        (credited-either (old me) m (λ (r : Room). debt r p ≡ no_entry) (λ e. debt-none (with_debt (old me) None m 0) p (none-some p))
+        (λ z. debt-none (with_debt (old me) (old me).lender m (old me).link) p (λ k. e (sym (same_Some lender p (sym owner ∙ k))))))
 
     -- the REDUCE lowers the loan that it is of,
     lowered : flush (record { mode = (old me).credit; link = (old me).link }) (msg.Reduce (old me).link m) ≡ entry_of m (old me).link
@@ -149,7 +155,7 @@ module _ (n : ℕ) (old new : ℕ → Room) (messages : List Wire) (me : ℕ) (o
         to = receiver-is lender me w b
 
         differ : l ≢ (old me).link
-        differ z = links.differs w i k l e (ap (λ (c : ℕ). (old c).lender) to ∙ sym (sender-is lender me w b)) (z ∙ sym (ap (λ (c : ℕ). (old c).link) to))
+        differ z = links.differs w i k l e (ap (λ (c : ℕ). (old c).lender) to ∙ owner ∙ ap Some (sym (sender-is lender me w b))) (z ∙ sym (ap (λ (c : ℕ). (old c).link) to))
     newer w i b (msg.Token k rest l) e s = flush-none (old me).link m
     newer w i b (msg.Reduce l k) e s = absurd (true≢false (sym s))
 
@@ -166,7 +172,7 @@ module _ (n : ℕ) (old new : ℕ → Room) (messages : List Wire) (me : ℕ) (o
         go : ((e : Entry) → folds (arriving owe lender me) e messages ≡ e) ⊎ Set lender me messages
             → flush (owed old messages lender me) (msg.Reduce (old me).link m) ≡ owed new messages lender me
         go (inl k) =
-            ap (λ (v : Entry). flush v (msg.Reduce (old me).link m)) (k (debt (old me) lender) ∙ debt-here (old me) lender refl) ∙ lowered
+            ap (λ (v : Entry). flush v (msg.Reduce (old me).link m)) (k (debt (old me) lender) ∙ debt-here (old me) lender owner) ∙ lowered
             ∙ sym (k (debt (new me) lender) ∙ debt-now)
         go (inr s) =
             ap (λ (v : Entry). flush v (msg.Reduce (old me).link m)) (s.owes (debt (old me) lender))
@@ -187,5 +193,5 @@ module _ (n : ℕ) (old new : ℕ → Room) (messages : List Wire) (me : ℕ) (o
             → flushed new (messages ++ (reduce ∷ [])) p c ≡ owed new (messages ++ (reduce ∷ [])) p c
         go (inl e) (inl f) = rw (e, f) (pair-paid (λ k. other (sym k)) (ledger lender me low (rw e at lc) other))
         go (inl e) (inr f) =
-            pair_same p c (inr f) (rw e (debt-other p lp f ∙ sym (debt-none (old me) p (λ k. f (sym k))))) (ledger p c lp lc ne)
+            pair_same p c (inr f) (rw e (debt-other p lp f ∙ sym (debt-none (old me) p (λ k. f (sym (same_Some lender p (sym owner ∙ k))))))) (ledger p c lp lc ne)
         go (inr e) f = pair_same p c (inl e) (ap (λ (r : Room). debt r p) (others c e)) (ledger p c lp lc ne)

@@ -3,10 +3,12 @@ use Rattle.std.specs.Prelude.{◌≡◌, refl, ◌≢◌, ◌⊎◌, Bool, true,
 use Rattle.std.proofs.Common.{sym, ◌∙◌, ap, arith}
 use Rattle.std.proofs.Math.Logic.{inl, inr, ⊎_elim}
 use Prim.Native.Nat.{ℕ, ◌≤◌, ◌<◌}
+use Rattle.std.proofs.lemmas.Option.{none-some, same_Some}
 use Rattle.base.specs.Sums.{same?}
 use Rattle.base.specs.Lists.{Mem, mem-snoc}
+use Rattle.std.specs.Prelude.{Some, None}
 use Rattle.room.specs.declared.Room.{Room}
-use Rattle.room.specs.Limits.{room_limit, nobody}
+use Rattle.room.specs.Limits.{room_limit}
 use Rattle.room.specs.Record.{with_modes}
 use Rattle.room.specs.Rules.{next_link, lent_to, left, remaining, passed_to}
 use Rattle.table.specs.declared.Wire.{Wire}
@@ -24,7 +26,7 @@ use Rattle.ledger.proofs.Reach.{lifted-link, reach-more, reach-sent, reach-still
 pub record Linked (rooms : ℕ → Room) (messages : List Wire) (w : Wire) : Type 0 where
   pub reduce : (l m : ℕ) → w.message ≡ msg.Reduce l m → l ≤ reach rooms messages w.to w.«from»
   pub grant : (m l : ℕ) → w.message ≡ msg.Grant m l → l ≤ (rooms w.«from»).counter
-  pub differs : (m l : ℕ) → w.message ≡ msg.Grant m l → (rooms w.to).lender ≡ w.«from» → l ≢ (rooms w.to).link
+  pub differs : (m l : ℕ) → w.message ≡ msg.Grant m l → (rooms w.to).lender ≡ Some w.«from» → l ≢ (rooms w.to).link
 
 -- it says nothing of a REQUEST and of a TOKEN
 pub silent-request : (rooms : ℕ → Room) (messages : List Wire) (x y o m : ℕ) (idle : Bool) → Linked rooms messages (wire x y (msg.Request o m idle))
@@ -45,13 +47,13 @@ silent-token rooms messages x y m rest l =
 
 -- a room owes what it owed before
 abbrev pub Owes : Room → Room → ℕ → Type 0
-Owes old new p = (old.lender ≡ p) × (new.link ≡ old.link)
+Owes old new p = (old.lender ≡ Some p) × (new.link ≡ old.link)
 
 module _ (n : ℕ) (old new : ℕ → Room) (messages after : List Wire) (links : Links n old messages)
     (grows : (p c : ℕ) → reach old messages p c ≤ reach new after p c) (counters : (c : ℕ) → (old c).counter ≤ (new c).counter)
     (sent : (w : Wire) → Mem w after → Mem w messages ⊎ Linked new after w)
-    (debts : (p c : ℕ) → p < n → c < n → (new c).lender ≡ p → Owes (old c) (new c) p ⊎ ((new c).link ≤ reach new after p c))
-    (loans : (w : Wire) → Mem w after → Mem w messages → (m l : ℕ) → w.message ≡ msg.Grant m l → (new w.to).lender ≡ w.«from»
+    (debts : (p c : ℕ) → p < n → c < n → (new c).lender ≡ Some p → Owes (old c) (new c) p ⊎ ((new c).link ≤ reach new after p c))
+    (loans : (w : Wire) → Mem w after → Mem w messages → (m l : ℕ) → w.message ≡ msg.Grant m l → (new w.to).lender ≡ Some w.«from»
     → Owes (old w.to) (new w.to) w.«from» ⊎ (l ≢ (new w.to).link)) where
   was : (w : Wire) → Mem w after → Mem w messages → Linked new after w
   was w j i =
@@ -80,11 +82,11 @@ module _ (n : ℕ) (old new : ℕ → Room) (messages : List Wire) (me : ℕ) (o
       ⊎_elim (λ e. rw e h) (λ e. omega (arith, ap (λ (r : Room). r.counter) (others c e))) (same? c me)
 
   -- a lender and a link number that are as they were in the changed record are so everywhere
-  pub owes-kept : (new me).lender ≡ (old me).lender → (new me).link ≡ (old me).link → (p c : ℕ) → (new c).lender ≡ p → Owes (old c) (new c) p
+  pub owes-kept : (new me).lender ≡ (old me).lender → (new me).link ≡ (old me).link → (p c : ℕ) → (new c).lender ≡ Some p → Owes (old c) (new c) p
   owes-kept l k p c e = (sym (alike old new me others (λ r. r.lender) l c) ∙ e, alike old new me others (λ r. r.link) k c)
 
   -- and so they are in rooms other than the changed one
-  pub owes-other : (p c : ℕ) → c ≢ me → (new c).lender ≡ p → Owes (old c) (new c) p
+  pub owes-other : (p c : ℕ) → c ≢ me → (new c).lender ≡ Some p → Owes (old c) (new c) p
   owes-other p c d e = (sym (ap (λ (r : Room). r.lender) (others c d)) ∙ e, ap (λ (r : Room). r.link) (others c d))
 
   -- a message more
@@ -124,7 +126,7 @@ module _ (n : ℕ) (old new : ℕ → Room) (messages : List Wire) (me : ℕ) (o
       count = rw here refl
 
       -- what y owes me has been counted to
-      older : (old y).lender ≡ me → (old y).link < link
+      older : (old y).lender ≡ Some me → (old y).link < link
       older e = omega (arith, links.debt me y own low e, reach-still y me messages none (old me).counter)
 
       new-loan : Linked new (messages ++ (grant ∷ [])) grant
@@ -138,7 +140,7 @@ module _ (n : ℕ) (old new : ℕ → Room) (messages : List Wire) (me : ℕ) (o
           }
 
   -- "Passing to w": what remains is owed under the TOKEN's own number
-  pub links-pass : (y m : ℕ) → new me ≡ passed_to (old me) y → (old me).counter ≤ next_link (old me).counter → n ≤ room_limit → (old me).lender ≡ nobody
+  pub links-pass : (y m : ℕ) → new me ≡ passed_to (old me) y → (old me).counter ≤ next_link (old me).counter → n ≤ room_limit → (old me).lender ≡ None
       → ((w : Wire) → Mem w messages → w.to ≡ me → (k l : ℕ) → w.message ≡ msg.Grant k l → ⊥)
       → Links n new (messages ++ (wire me y (msg.Token m (remaining (old me) y) (next_link (old me).counter)) ∷ []))
   unfolding left lift
@@ -162,9 +164,9 @@ module _ (n : ℕ) (old new : ℕ → Room) (messages : List Wire) (me : ℕ) (o
           rw (more lift me y (new y).counter messages token, arriving-this lift me y token (same-wire me y token refl refl) (reach new messages y me))
           (lifted-link (reach new messages y me) link)
 
-      own : (p : ℕ) → p < n → (new me).lender ≡ p → (new me).link ≤ reach new (messages ++ (token ∷ [])) p me
+      own : (p : ℕ) → p < n → (new me).lender ≡ Some p → (new me).link ≤ reach new (messages ++ (token ∷ [])) p me
       own p lp e =
           passed-either (old me) y (λ (r : Room). new me ≡ r → (new me).link ≤ reach new (messages ++ (token ∷ [])) p me)
-          (λ z. λ q. absurd (omega (arith, e, ap (λ (r : Room). r.lender) q)))
-          (λ z. λ q. rw (sym e ∙ ap (λ (r : Room). r.lender) q, ap (λ (r : Room). r.link) q) reaches)
+          (λ z. λ q. absurd (none-some p (sym (ap (λ (r : Room). r.lender) q ∙ free) ∙ e)))
+          (λ z. λ q. rw (same_Some p y (sym e ∙ ap (λ (r : Room). r.lender) q), ap (λ (r : Room). r.link) q) reaches)
           here

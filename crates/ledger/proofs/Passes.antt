@@ -1,17 +1,20 @@
 -- LEDGER is kept where the token goes: the receiver's entry is cleared, and what remains is owed to the receiver.
 use Rattle.std.specs.Prelude.{◌≡◌, ◌≢◌, ◌⊎◌, false, List, [], ◌∷◌, ◌++◌, ℕ, ◌≤◌, ◌<◌, length}
 use Rattle.std.proofs.Math.Path.{refl, sym, ap}
-use Rattle.std.proofs.Common.{◌∙◌, inl, inr, ⊎_elim, true≢false, arith, eq-eqb, ne_eqb}
+use Rattle.std.proofs.Common.{◌∙◌, inl, inr, ⊎_elim, true≢false, eq-eqb, ne_eqb}
 use Rattle.std.proofs.Math.Seq.{get_or-set_same, get_or-set_other}
+use Rattle.std.proofs.lemmas.Option.{same_Some}
 use Rattle.base.specs.Choice.{split}
 use Rattle.base.specs.Sums.{same?}
 use Rattle.base.specs.Lists.{Mem}
 use Rattle.base.specs.Folds.{folds, folds-still}
+use Rattle.std.specs.Prelude.{Some, None}
 use Rattle.room.specs.declared.Room.{Room}
 use Rattle.room.specs.declared.Entry.{Entry}
-use Rattle.room.specs.Limits.{room_limit, nobody}
+use Rattle.room.specs.Limits.{room_limit}
 use Rattle.room.specs.Record.{no_entry, entry_of, entry_at, with_debt}
 use Rattle.room.specs.Rules.{next_link, left, remaining, passed_to}
+use Rattle.room.proofs.Lenders.{nobody-lends}
 use Rattle.table.specs.declared.Wire.{Wire}
 use Rattle.table.specs.declared.Message.{Message}
 use Rattle.table.specs.declared.Message.TheVariants as msg
@@ -36,7 +39,7 @@ none_stays (msg.Reduce l k) t = flush-none l k
 
 module _ (n : ℕ) (old new : ℕ → Room) (messages : List Wire) (me : ℕ) (others : (c : ℕ) → c ≢ me → new c ≡ old c)
     (ledger : Ledger n old messages) (y m : ℕ) (here : new me ≡ passed_to (old me) y) (low : y < n) (other : y ≢ me) (small : n ≤ room_limit)
-    (place : y < length (old me).entries) (free : (old me).lender ≡ nobody)
+    (place : y < length (old me).entries) (free : (old me).lender ≡ None)
     (none : (w : Wire) → Mem w messages → is_token w.message ≡ false)
     (unset : (w : Wire) → Mem w messages → w.to ≡ me → is_setting w.message ≡ false) where
   abbrev link : ℕ
@@ -46,7 +49,7 @@ module _ (n : ℕ) (old new : ℕ → Room) (messages : List Wire) (me : ℕ) (o
   rest = remaining (old me) y
 
   abbrev owing : Room
-  owing = with_debt (left (old me) y) y rest link
+  owing = with_debt (left (old me) y) (Some y) rest link
 
   abbrev token : Wire
   token = wire me y (msg.Token m rest link)
@@ -71,18 +74,18 @@ module _ (n : ℕ) (old new : ℕ → Room) (messages : List Wire) (me : ℕ) (o
   debt-new =
       rw here
       (passed-either (old me) y (λ (r : Room). debt r y ≡ entry_of rest link)
-      (λ z. debt-none (left (old me) y) y (λ e. omega (arith, free)) ∙ sym (simp (eq-eqb rest 0 z)))
+      (λ z. debt-none (left (old me) y) y (nobody-lends free) ∙ sym (simp (eq-eqb rest 0 z)))
       (λ z. debt-here owing y refl ∙ sym (simp (ne_eqb rest 0 z))))
 
   debt-old : (p : ℕ) → p < n → debt (old me) p ≡ no_entry
-  debt-old p l = debt-none (old me) p (λ e. omega (arith, free))
+  debt-old p l = debt-none (old me) p (nobody-lends free)
 
   debt-other : (p : ℕ) → p < n → p ≢ y → debt (new me) p ≡ no_entry
   unfolding left
   debt-other p l e =
       rw here
-      (passed-either (old me) y (λ (r : Room). debt r p ≡ no_entry) (λ e. debt-none (left (old me) y) p (λ k. omega (arith, free)))
-      (λ z. debt-none owing p (λ k. e (sym k))))
+      (passed-either (old me) y (λ (r : Room). debt r p ≡ no_entry) (λ e. debt-none (left (old me) y) p (nobody-lends free))
+      (λ z. debt-none owing p (λ k. e (sym (same_Some y p k)))))
 
   -- what y owed has ended
   pair_ended : flushed new (messages ++ (token ∷ [])) me y ≡ owed new (messages ++ (token ∷ [])) me y

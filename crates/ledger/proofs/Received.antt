@@ -3,14 +3,17 @@ use Rattle.std.specs.Prelude.{◌≡◌, ◌≢◌, ◌⊎◌, Bool, false, List
 use Rattle.std.proofs.Math.Path.{refl, ap}
 use Rattle.std.proofs.Common.{sym, ◌∙◌, arith}
 use Rattle.std.proofs.Math.Logic.{inl, inr, ⊎_elim}
+use Rattle.std.proofs.lemmas.Option.{none-some, same_Some}
 use Rattle.base.specs.Choice.{by-test}
 use Rattle.base.specs.Sums.{same?}
 use Rattle.base.specs.Lists.{Mem, remove, mem-remove}
 use Rattle.base.specs.Folds.{folds}
+use Rattle.std.specs.Prelude.{Some, None}
 use Rattle.room.specs.declared.Room.{Room}
-use Rattle.room.specs.Limits.{room_limit, nobody}
-use Rattle.room.specs.Record.{with_modes, with_debt}
+use Rattle.room.specs.Limits.{room_limit}
+use Rattle.room.specs.Record.{with_modes, with_debt, lender_of}
 use Rattle.room.specs.Rules.{credited, lifted, tokened_by, reduced}
+use Rattle.room.proofs.Lenders.{lends-low}
 use Rattle.table.specs.declared.Wire.{Wire}
 use Rattle.table.specs.declared.Message.{Message}
 use Rattle.table.specs.declared.Message.TheVariants as msg
@@ -37,9 +40,9 @@ links-ask n rooms messages links x y o m idle =
 
 module _ (n : ℕ) (old new : ℕ → Room) (messages : List Wire) (me : ℕ) (others : (c : ℕ) → c ≢ me → new c ≡ old c) (links : Links n old messages) where
   -- What is owed falls to m, and the lender is sent a REDUCE under the loan's own number
-  pub links-pay : (m : ℕ) → new me ≡ credited (old me) m → (old me).lender < n → me < n → n ≤ room_limit
+  pub links-pay : (m : ℕ) → new me ≡ credited (old me) m → lender_of (old me) < n → me < n → n ≤ room_limit
       → ((w : Wire) → Mem w messages → w.«from» < n)
-      → Links n new (messages ++ (wire me (old me).lender (msg.Reduce (old me).link m) ∷ []))
+      → Links n new (messages ++ (wire me (lender_of (old me)) (msg.Reduce (old me).link m) ∷ []))
   unfolding credited
   links-pay m here low own small senders =
       links-kept n old new messages (messages ++ (reduce ∷ [])) links grows (counters-kept n old new messages me others links (omega (arith, count)))
@@ -47,10 +50,10 @@ module _ (n : ℕ) (old new : ℕ → Room) (messages : List Wire) (me : ℕ) (o
       (λ p c lp lc e. inl (owes p c lp e)) (λ w j i k l g e. inl (owes w.«from» w.to (senders w i) e))
     where
       reduce : Wire
-      reduce = wire me (old me).lender (msg.Reduce (old me).link m)
+      reduce = wire me (lender_of (old me)) (msg.Reduce (old me).link m)
 
       freed : Room
-      freed = with_debt (old me) nobody m 0
+      freed = with_debt (old me) None m 0
 
       kept : Room
       kept = with_debt (old me) (old me).lender m (old me).link
@@ -66,19 +69,19 @@ module _ (n : ℕ) (old new : ℕ → Room) (messages : List Wire) (me : ℕ) (o
           record {
             reduce = λ l k e.
                 let q : (old me).link ≡ l = cc in
-                omega (arith, links.debt (old me).lender me low own refl, grows (old me).lender me);
+                omega (arith, links.debt (lender_of (old me)) me low own (lends-low (old me) n low small), grows (lender_of (old me)) me);
             grant = λ k l e. let z : ◌≡◌ {A = ℕ} 0 1 = cc in absurd (omega arith);
             differs = λ k l e. let z : ◌≡◌ {A = ℕ} 0 1 = cc in absurd (omega arith);
           }
 
       -- a lender that is left is the old one, and nobody is no room
-      here-owes : (p : ℕ) → p < n → (new me).lender ≡ p → Owes (old me) (new me) p
+      here-owes : (p : ℕ) → p < n → (new me).lender ≡ Some p → Owes (old me) (new me) p
       here-owes p lp e =
           by-test (λ (r : Room). new me ≡ r → Owes (old me) (new me) p) (eqb m 0) freed kept
-          (λ b q. absurd (omega (arith, e, ap (λ (r : Room). r.lender) q)))
+          (λ b q. absurd (none-some p (sym (ap (λ (r : Room). r.lender) q) ∙ e)))
           (λ b q. (sym (ap (λ (r : Room). r.lender) q) ∙ e, ap (λ (r : Room). r.link) q)) here
 
-      owes : (p c : ℕ) → p < n → (new c).lender ≡ p → Owes (old c) (new c) p
+      owes : (p c : ℕ) → p < n → (new c).lender ≡ Some p → Owes (old c) (new c) p
       owes p c lp e = ⊎_elim (λ q. rw q (here-owes p lp (rw q at e))) (λ q. owes-other n old new messages me others links p c q e) (same? c me)
 
   module _ (k a : ℕ) (m : Message) (o : Oldest messages k a me m) where
@@ -110,13 +113,13 @@ module _ (n : ℕ) (old new : ℕ → Room) (messages : List Wire) (me : ℕ) (o
 
     -- A room with one GRANT or TOKEN under way to it has no other.
     module _ (ungranted : (w : Wire) → Mem w (remove k messages) → w.to ≡ me → (x y : ℕ) → w.message ≡ msg.Grant x y → ⊥) where
-      loans : (w : Wire) → Mem w (remove k messages) → Mem w messages → (x y : ℕ) → w.message ≡ msg.Grant x y → (new w.to).lender ≡ w.«from»
+      loans : (w : Wire) → Mem w (remove k messages) → Mem w messages → (x y : ℕ) → w.message ≡ msg.Grant x y → (new w.to).lender ≡ Some w.«from»
           → Owes (old w.to) (new w.to) w.«from» ⊎ (y ≢ (new w.to).link)
       loans w j i x y g e =
           ⊎_elim (λ q. absurd (ungranted w j q x y g)) (λ q. inl (owes-other n old new messages me others links w.«from» w.to q e)) (same? w.to me)
 
       -- "GRANT: .. Then lender a, the new link number"
-      pub links-grant : (j l : ℕ) → m ≡ msg.Grant j l → new me ≡ with_debt (with_modes (old me) j 0) a j l → a ≢ me → Mem (wire a me m) messages
+      pub links-grant : (j l : ℕ) → m ≡ msg.Grant j l → new me ≡ with_debt (with_modes (old me) j 0) (Some a) j l → a ≢ me → Mem (wire a me m) messages
           → Links n new (remove k messages)
       unfolding is_token
       links-grant j l e here other i =
@@ -127,9 +130,9 @@ module _ (n : ℕ) (old new : ℕ → Room) (messages : List Wire) (me : ℕ) (o
           grows : (p c : ℕ) → reach old messages p c ≤ reach new (remove k messages) p c
           grows = grows-still (rw e refl) (rw here (omega arith))
 
-          own : (p : ℕ) → (new me).lender ≡ p → (new me).link ≤ reach new (remove k messages) p me
+          own : (p : ℕ) → (new me).lender ≡ Some p → (new me).link ≤ reach new (remove k messages) p me
           own p q =
-              let lent : a ≡ p = sym (ap (λ (r : Room). r.lender) here) ∙ q in
+              let lent : a ≡ p = same_Some a p (sym (ap (λ (r : Room). r.lender) here) ∙ q) in
               let number : (new me).link ≡ l = ap (λ (r : Room). r.link) here in
               rw (← lent)
               (omega (arith, number, links.grant (wire a me m) i j l e, reach-up me a messages (old a).counter, grows a me))
@@ -140,7 +143,7 @@ module _ (n : ℕ) (old new : ℕ → Room) (messages : List Wire) (me : ℕ) (o
       unfolding tokened_by lift
       links-token j rest l e here small =
           links-kept n old new messages (remove k messages) links grows (counters-kept n old new messages me others links up) fewer
-          (λ p c lp lc q. ⊎_elim (λ z. absurd (omega (arith, lp, q, ap (λ (c : ℕ). (new c).lender) z, ap (λ (r : Room). r.lender) here)))
+          (λ p c lp lc q. ⊎_elim (λ z. absurd (none-some p (sym (ap (λ (c : ℕ). (new c).lender) z ∙ ap (λ (r : Room). r.lender) here) ∙ q)))
           (λ z. inl (owes-other n old new messages me others links p c z q)) (same? c me))
           loans
         where

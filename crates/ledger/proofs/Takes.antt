@@ -1,16 +1,19 @@
 -- LEDGER is kept where a message is taken off its wire and does its work: both folds had it in them already.
 use Rattle.std.specs.Prelude.{◌≡◌, ◌≢◌, ◌⊎◌, false, List, ℕ, ◌≤◌, ◌<◌, length, get_or}
 use Rattle.std.proofs.Math.Path.{refl, sym}
-use Rattle.std.proofs.Common.{◌∙◌, ap, inl, inr, ⊎_elim, arith, get_or-set_same}
+use Rattle.std.proofs.Common.{◌∙◌, ap, inl, inr, ⊎_elim, get_or-set_same}
 use Rattle.std.proofs.Math.Seq.{get_or-set_other}
+use Rattle.std.proofs.lemmas.Option.{none-some, same_Some}
 use Rattle.base.specs.Sums.{same?}
 use Rattle.base.specs.Lists.{remove}
 use Rattle.base.specs.Folds.{folds, folds-skip}
+use Rattle.std.specs.Prelude.{Some, None}
 use Rattle.room.specs.declared.Room.{Room}
 use Rattle.room.specs.declared.Entry.{Entry}
-use Rattle.room.specs.Limits.{room_limit, nobody}
+use Rattle.room.specs.Limits.{room_limit}
 use Rattle.room.specs.Record.{no_entry, entry_of, entry_at, with_modes, with_debt}
 use Rattle.room.specs.Rules.{tokened_by, reduced}
+use Rattle.room.proofs.Lenders.{nobody-lends}
 use Rattle.table.specs.declared.Wire.{Wire}
 use Rattle.table.specs.declared.Message.{Message}
 use Rattle.table.specs.declared.Message.TheVariants as msg
@@ -103,20 +106,20 @@ module _ (n : ℕ) (old new : ℕ → Room) (messages : List Wire) (me : ℕ) (o
           (λ b. simp b (sym (get_or-set_same (old me).entries a (entry_of j l) no_entry place))) (λ b. simp b)
 
   -- A room that owes nothing, or owes a alone, takes a GRANT or the TOKEN of a.
-  module _ (small : n ≤ room_limit) (owing : ((old me).lender ≡ nobody) ⊎ ((old me).lender ≡ a)) where
+  module _ (small : n ≤ room_limit) (owing : ((old me).lender ≡ None) ⊎ ((old me).lender ≡ Some a)) where
     debt-old : (p : ℕ) → p < n → p ≢ a → debt (old me) p ≡ no_entry
-    debt-old p l f = debt-none (old me) p (λ e. ⊎_elim (λ z. omega (arith, z)) (λ z. f (sym e ∙ z)) owing)
+    debt-old p l f = debt-none (old me) p (λ e. ⊎_elim (λ z. nobody-lends z e) (λ z. f (same_Some p a (sym e ∙ z))) owing)
 
     -- "GRANT: .. Then lender a, the new link number, credit and held the mode, wanted none."
-    pub ledger-grant : (j l : ℕ) → m ≡ msg.Grant j l → new me ≡ with_debt (with_modes (old me) j 0) a j l → Taken
+    pub ledger-grant : (j l : ℕ) → m ≡ msg.Grant j l → new me ≡ with_debt (with_modes (old me) j 0) (Some a) j l → Taken
     unfolding flush owe
     ledger-grant j l e here =
         taken
         (λ v q. rw (q, e, here) refl)
         (λ c f. rw here refl)
-        (ap (λ (v : Entry). folds (arriving owe a me) v (remove k messages)) (rw here (debt-here (with_debt (with_modes (old me) j 0) a j l) a refl) ∙ sym (says (debt (old me) a)))
+        (ap (λ (v : Entry). folds (arriving owe a me) v (remove k messages)) (rw here (debt-here (with_debt (with_modes (old me) j 0) (Some a) j l) a refl) ∙ sym (says (debt (old me) a)))
         ∙ gone-first messages k a me m o owe (debt (old me) a))
-        (λ p lp f. rw here (debt-none (with_debt (with_modes (old me) j 0) a j l) p (λ z. f (sym z))) ∙ sym (debt-old p lp f))
+        (λ p lp f. rw here (debt-none (with_debt (with_modes (old me) j 0) (Some a) j l) p (λ z. f (sym (same_Some a p z)))) ∙ sym (debt-old p lp f))
       where
         says : (v : Entry) → owe v m ≡ record { mode = j; link = l }
         says v = rw e refl
@@ -136,4 +139,4 @@ module _ (n : ℕ) (old new : ℕ → Room) (messages : List Wire) (me : ℕ) (o
         says v = rw e refl
 
         free : (p : ℕ) → p < n → debt (new me) p ≡ no_entry
-        free p lp = rw here (debt-none (tokened_by (old me) me a j rest l) p (λ z. omega arith))
+        free p lp = rw here (debt-none (tokened_by (old me) me a j rest l) p (none-some p))

@@ -2,6 +2,7 @@
 use Rattle.std.specs.Prelude.{◌≡◌, ◌≢◌, Bool, true, List, ℕ, ◌≤◌, ◌<◌, length, get_or}
 use Rattle.base.specs.Folds.{folds}
 use Rattle.base.specs.Lists.{Mem}
+use Rattle.std.specs.Prelude.{Some}
 use Rattle.room.specs.declared.Room.{Room}
 use Rattle.room.specs.Rules.{lifted}
 use Rattle.table.specs.declared.Wire.{Wire}
@@ -27,10 +28,10 @@ reach rooms messages p c = folds (arriving lift c p) (rooms p).counter messages
 pub record Links (n : ℕ) (rooms : ℕ → Room) (messages : List Wire) : Type 0 where
   -- a REDUCE, and the link number of a room with a lender, are within that lender's reach
   pub reduce : (w : Wire) → Mem w messages → (l m : ℕ) → w.message ≡ msg.Reduce l m → l ≤ reach rooms messages w.to w.«from»
-  pub debt : (p c : ℕ) → p < n → c < n → (rooms c).lender ≡ p → (rooms c).link ≤ reach rooms messages p c
+  pub debt : (p c : ℕ) → p < n → c < n → (rooms c).lender ≡ Some p → (rooms c).link ≤ reach rooms messages p c
   -- a GRANT has a number that its sender has counted to, and not that of a loan which its receiver already has from there
   pub grant : (w : Wire) → Mem w messages → (m l : ℕ) → w.message ≡ msg.Grant m l → l ≤ (rooms w.«from»).counter
-  pub differs : (w : Wire) → Mem w messages → (m l : ℕ) → w.message ≡ msg.Grant m l → (rooms w.to).lender ≡ w.«from» → l ≢ (rooms w.to).link
+  pub differs : (w : Wire) → Mem w messages → (m l : ℕ) → w.message ≡ msg.Grant m l → (rooms w.to).lender ≡ Some w.«from» → l ≢ (rooms w.to).link
 
 -- a TOKEN and a REQUEST begun by its sender are on one wire
 abbrev pub Along : Wire → Wire → Type 0

@@ -4,7 +4,7 @@ use Rattle.base.specs.Folds.{folds}
 use Rattle.modes.specs.Modes.{is_stronger}
 use Rattle.room.specs.declared.Room.{Room}
 use Rattle.room.specs.declared.Entry.{Entry}
-use Rattle.room.specs.Record.{no_entry, entry_of, entry_at}
+use Rattle.room.specs.Record.{no_entry, entry_of, entry_at, is_lender}
 use Rattle.table.specs.declared.Wire.{Wire}
 use Rattle.table.specs.declared.Message.{Message}
 use Rattle.table.specs.declared.Message.TheVariants as msg
@@ -36,7 +36,7 @@ flushed rooms messages p c = folds (arriving flush c p) (entry_at (rooms p) c) m
 
 -- what c owes p as its record says
 unfoldable pub debt : Room → ℕ → Entry
-debt r p = if eqb r.lender p then record { mode = r.credit; link = r.link } else no_entry
+debt r p = if is_lender r.lender p then record { mode = r.credit; link = r.link } else no_entry
 
 -- what c owes p once everything on the wire from p to c has arrived
 abbrev pub owed : (ℕ → Room) → List Wire → ℕ → ℕ → Entry

@@ -7,12 +7,12 @@ use Rattle.base.specs.Sums.{one, one-le, sum}
 use Rattle.base.specs.Folds.{folds}
 use Rattle.base.specs.Ranks.{rerooted}
 use Rattle.base.specs.Lists.{remove}
+use Rattle.std.specs.Prelude.{Some, None}
 use Rattle.modes.specs.Codes.{IR}
 use Rattle.modes.specs.Modes.{is_stronger}
 use Rattle.modes.proofs.Laws.{stronger-true}
 use Rattle.room.specs.declared.Room.{Room}
-use Rattle.room.specs.Limits.{nobody}
-use Rattle.room.specs.Record.{with_modes, with_debt}
+use Rattle.room.specs.Record.{with_modes, with_debt, lender_of}
 use Rattle.room.specs.Owned.{owned}
 use Rattle.room.specs.Rules.{next_link, lent_to, left, remaining, passed_to, credited, tokened_by, reduced}
 use Rattle.table.specs.declared.Wire.{Wire}
@@ -108,13 +108,13 @@ module _ (n : ℕ) (old new : ℕ → Room) (messages : List Wire) (me : ℕ) (l
 
   -- the level that falls pays for the REDUCE
   pub not-more-settle : owned (old me) ≤ IR → is_stronger (old me).credit (owned (old me)) ≡ true → new me ≡ credited (old me) (owned (old me))
-      → potential n new queue (messages ++ (wire me (old me).lender (msg.Reduce (old me).link (owned (old me))) ∷ [])) hand height
+      → potential n new queue (messages ++ (wire me (lender_of (old me)) (msg.Reduce (old me).link (owned (old me))) ∷ [])) hand height
       ≤ potential n old queue messages hand height
   unfolding potential load own charge is_token is_request
   not-more-settle small weaker here = omega (
     arith,
-    sent-at (old me).lender (msg.Reduce (old me).link (owned (old me))) flag refl (omega arith),
-    pile-sent height names flag nothing messages (wire me (old me).lender (msg.Reduce (old me).link (owned (old me)))),
+    sent-at (lender_of (old me)) (msg.Reduce (old me).link (owned (old me))) flag refl (omega arith),
+    pile-sent height names flag nothing messages (wire me (lender_of (old me)) (msg.Reduce (old me).link (owned (old me)))),
     rooms-differ,
     ap own here,
     credited-either (old me) (owned (old me)) (λ (r : Room). own r ≡ hold_weight * one (ltb 0 (old me).held) + level (owned (old me))) (λ e. refl) (λ e. refl),
@@ -124,8 +124,8 @@ module _ (n : ℕ) (old new : ℕ → Room) (messages : List Wire) (me : ℕ) (l
   -- What arrives.
 
   -- "if b has a lender other than a, it sends that lender REDUCE to none": the level of its credit pays for it
-  pub falls-grant : (k a m l : ℕ) → Oldest messages k a me (msg.Grant m l) → new me ≡ with_debt (with_modes (old me) m 0) a m l
-      → ((old me).credit ≡ 0 → (old me).lender ≡ nobody)
+  pub falls-grant : (k a m l : ℕ) → Oldest messages k a me (msg.Grant m l) → new me ≡ with_debt (with_modes (old me) m 0) (Some a) m l
+      → ((old me).credit ≡ 0 → (old me).lender ≡ None)
       → potential n new queue (remove k messages ++ leaving_sent me (old me) a) hand height < potential n old queue messages hand height
   unfolding potential load own charge is_token is_request
   falls-grant k a m l oldest here free = omega (
@@ -144,7 +144,7 @@ module _ (n : ℕ) (old new : ℕ → Room) (messages : List Wire) (me : ℕ) (l
 
   -- the heights go up by one, and the flag goes down
   pub falls-token : (k a m rest l : ℕ) → Oldest messages k a me (msg.Token m rest l) → tokens n old messages ≡ 1
-      → new me ≡ tokened_by (old me) me a m rest l → ((old me).credit ≡ 0 → (old me).lender ≡ nobody)
+      → new me ≡ tokened_by (old me) me a m rest l → ((old me).credit ≡ 0 → (old me).lender ≡ None)
       → potential n new queue (remove k messages ++ leaving_sent me (old me) a) hand (rerooted me height)
       < potential n old queue messages hand height
   unfolding load own tokened_by is_token is_request tokens

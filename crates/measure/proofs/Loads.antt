@@ -4,8 +4,8 @@ use Rattle.std.proofs.Common.{sym, ◌∙◌, ap}
 use native.Mathlib.Omega.{arith}
 use Rattle.base.specs.Sums.{one, sum, sum-differ}
 use Rattle.base.specs.Lists.{total, remove, total-append, total-snoc, total-remove}
+use Rattle.std.specs.Prelude.{None}
 use Rattle.room.specs.declared.Room.{Room}
-use Rattle.room.specs.Limits.{nobody}
 use Rattle.table.specs.declared.Wire.{Wire}
 use Rattle.table.specs.declared.Queued.{Queued}
 use Rattle.table.specs.declared.Message.{Message}
@@ -59,7 +59,7 @@ module _ (l : List Wire) where
   )
 
 -- a REDUCE to the old lender is paid for by the level of the credit from there
-pub leaving-paid : (height : ℕ → ℕ) (share flag : ℕ) (behind : Wire → Bool) (me : ℕ) (r : Room) (a : ℕ) → (r.credit ≡ 0 → r.lender ≡ nobody)
+pub leaving-paid : (height : ℕ → ℕ) (share flag : ℕ) (behind : Wire → Bool) (me : ℕ) (r : Room) (a : ℕ) → (r.credit ≡ 0 → r.lender ≡ None)
     → pile height share flag behind (leaving_sent me r a) ≤ level r.credit
 unfolding pile charge
 leaving-paid height share flag behind me r a free =

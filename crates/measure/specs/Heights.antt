@@ -8,8 +8,9 @@ use Rattle.base.specs.Tests.{clash}
 use Rattle.base.specs.Sums.{one, same?}
 use Rattle.base.specs.Ranks.{rerooted, rerooted-here, rerooted-other}
 use Rattle.base.specs.Lists.{total, remove, total-append, total-snoc, total-remove, mem-at}
+use Rattle.std.specs.Prelude.{Some}
 use Rattle.room.specs.declared.Room.{Room}
-use Rattle.room.specs.Record.{with_modes, with_debt}
+use Rattle.room.specs.Record.{with_modes, with_debt, lender_of}
 use Rattle.room.specs.Owned.{owned}
 use Rattle.room.specs.Rules.{next_link, lent_to, remaining, credited, tokened_by, reduced}
 use Rattle.table.specs.declared.Wire.{Wire}
@@ -93,15 +94,15 @@ module _ (n : ℕ) (old new : ℕ → Room) (messages : List Wire) (me : ℕ) (o
           (leads c h (sym (ap (λ (r : Room). r.token) (others c e)) ∙ t) (omega (arith, z, passing-sent c messages me y sent)))
 
   pub leads-settle : new me ≡ credited (old me) (owned (old me))
-      → Leads n new (messages ++ (wire me (old me).lender (msg.Reduce (old me).link (owned (old me))) ∷ [])) height
+      → Leads n new (messages ++ (wire me (lender_of (old me)) (msg.Reduce (old me).link (owned (old me))) ∷ [])) height
   leads-settle here =
-      still (messages ++ (wire me (old me).lender (msg.Reduce (old me).link (owned (old me))) ∷ []))
-      (λ c. omega (arith, passing-sent c messages me (old me).lender (msg.Reduce (old me).link (owned (old me)))))
+      still (messages ++ (wire me (lender_of (old me)) (msg.Reduce (old me).link (owned (old me))) ∷ []))
+      (λ c. omega (arith, passing-sent c messages me (lender_of (old me)) (msg.Reduce (old me).link (owned (old me)))))
       (rw here (credited-either (old me) (owned (old me)) (λ (r : Room). r.token ≡ (old me).token) (λ e. refl) (λ e. refl)))
       (rw here (credited-either (old me) (owned (old me)) (λ (r : Room). r.toward ≡ (old me).toward) (λ e. refl) (λ e. refl)))
 
   pub leads-grant : (k a m l : ℕ) → k < length messages → get_or messages k no_wire ≡ wire a me (msg.Grant m l)
-      → new me ≡ with_debt (with_modes (old me) m 0) a m l
+      → new me ≡ with_debt (with_modes (old me) m 0) (Some a) m l
       → Leads n new (remove k messages ++ leaving_sent me (old me) a) height
   unfolding is_token
   leads-grant k a m l inside there here =

@@ -7,6 +7,7 @@ use Rattle.base.specs.Choice.{split}
 use Rattle.base.specs.Tests.{clash}
 use Rattle.base.specs.Sums.{one}
 use Rattle.base.specs.Lists.{Mem, mem-snoc, mem-total}
+use Rattle.room.specs.Record.{lender_of}
 use Rattle.room.specs.declared.Room.{Room}
 use Rattle.table.specs.declared.Wire.{Wire}
 use Rattle.table.specs.declared.Queued.{Queued}
@@ -25,7 +26,7 @@ sent-among messages x w h = mem-snoc messages x h
 
 -- what a room sends that gets another lender, or the token
 abbrev pub leaving_wire : ℕ → Room → Wire
-leaving_wire me r = wire me r.lender (msg.Reduce r.link 0)
+leaving_wire me r = wire me (lender_of r) (msg.Reduce r.link 0)
 
 leaving-member : (me : ℕ) (r : Room) (a : ℕ) (w : Wire) → Mem w (leaving_sent me r a) → w ≡ leaving_wire me r
 leaving-member me r a w =

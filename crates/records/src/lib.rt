@@ -9,7 +9,7 @@ ghost use Rattle.records.specs.Parts.{room_place_fine};
 ghost use Rattle.records.specs.Seen.{no_standing, standing, standing_at, seen_in};
 
 use modes::{IR, IW, NONE, R, U, W, is_code};
-use room::{Entry, NOBODY, ROOMS, Room};
+use room::{Entry, ROOMS, Room};
 
 // What the queue and the messages are tested against: the mode that a room waits for, and whether it has the token, which is a fact by itself.
 #[derive(Clone, Copy)]
@@ -88,18 +88,15 @@ fn holds_rightly(held: u8, wanted: u8, token: bool) -> bool
     }
 }
 
-// The lender, the credit and the link number of room c of n. A lender below n is not NOBODY.
-#[tactic(auto, unfolding(table::specs::Formed::owes_rightly))]
+// The lender, the credit and the link number of room c of n.
+#[tactic(auto, unfolding(table::specs::Formed::owes_rightly, room::specs::Record::is_lender))]
 fn owes_rightly(n: u8, c: u8, r: Room) -> bool
     ensures { result ≡ owes_rightly n c r }
 {
-    if r.lender == c {
-        return false;
-    }
-    match r.credit {
-        NONE => r.lender == NOBODY && r.link == 0,
-        IR..=W => r.lender < n && !r.token,
-        6..=255 => false,
+    match (r.lender, r.credit) {
+        (None, NONE) => r.link == 0,
+        (Some(l), IR..=W) => l < n && l != c && !r.token,
+        (None, IR..=255) | (Some(_), NONE | 6..=255) => false,
     }
 }
 

@@ -1,9 +1,9 @@
 -- A room's record: its parts, and the record with one part changed.
-use Rattle.std.specs.Prelude.{ℕ, Bool, false, [], get_or, set, replicate, eqb, if◌then◌else◌}
+use Rattle.std.specs.Prelude.{ℕ, Bool, false, Option, Some, None, unwrap_or, [], get_or, set, replicate, eqb, if◌then◌else◌}
 use Rattle.modes.specs.Codes.{none}
 use Rattle.room.specs.declared.Room.{Room}
 use Rattle.room.specs.declared.Entry.{Entry}
-use Rattle.room.specs.Limits.{room_limit, nobody}
+use Rattle.room.specs.Limits.{room_limit}
 
 -- "mode none meaning no entry"; its link number is zero
 abbrev pub no_entry : Entry
@@ -17,6 +17,15 @@ entry_of m l = if eqb m none then no_entry else record { mode = m; link = l }
 abbrev pub entry_at : Room → ℕ → Entry
 entry_at r c = get_or r.entries c no_entry
 
+-- "lender or nobody": whether room c is the lender
+unfoldable pub is_lender : Option ℕ → ℕ → Bool
+is_lender None c = false
+is_lender (Some l) c = eqb l c
+
+-- the lender's number; where there is none, one that no room has
+abbrev pub lender_of : Room → ℕ
+lender_of r = unwrap_or r.lender 255
+
 -- all none or zero
 abbrev pub blank_room : Room
 blank_room =
@@ -25,7 +34,7 @@ blank_room =
       wanted = none;
       token = false;
       toward = 0;
-      lender = nobody;
+      lender = None;
       credit = none;
       link = 0;
       counter = 0;
@@ -35,7 +44,7 @@ blank_room =
 -- what the language reads past the end of an array of rooms: numbers 0, arrays empty
 abbrev pub no_room : Room
 no_room =
-    record { held = 0; wanted = 0; token = false; toward = 0; lender = 0; credit = 0; link = 0; counter = 0; entries = [] }
+    record { held = 0; wanted = 0; token = false; toward = 0; lender = None; credit = 0; link = 0; counter = 0; entries = [] }
 
 -- the record with another held and another wanted mode
 abbrev pub with_modes : Room → ℕ → ℕ → Room
@@ -68,7 +77,7 @@ with_token r b t =
     }
 
 -- the record with another lender, credit and link number
-abbrev pub with_debt : Room → ℕ → ℕ → ℕ → Room
+abbrev pub with_debt : Room → Option ℕ → ℕ → ℕ → Room
 with_debt r l c k =
     record {
       held = r.held;

@@ -1,5 +1,5 @@
 -- How one room's record changes when it lends, passes, settles, or takes a message, and what it sends.
-use Rattle.std.specs.Prelude.{ℕ, ◌+◌, Bool, true, false, ◌||◌, ◌&&◌, Option, Some, None, ltb, leb, eqb, if◌then◌else◌}
+use Rattle.std.specs.Prelude.{ℕ, ◌+◌, Bool, true, false, ◌||◌, ◌&&◌, Option, Some, None, is_none, ltb, leb, eqb, if◌then◌else◌}
 use Rattle.modes.specs.Codes.{none}
 use Rattle.modes.specs.Modes.{is_stronger}
 use Rattle.room.specs.declared.Room.{Room}
@@ -7,8 +7,8 @@ use Rattle.room.specs.declared.Changed.{Changed}
 use Rattle.room.specs.declared.Lent.{Lent}
 use Rattle.room.specs.declared.Passed.{Passed}
 use Rattle.room.specs.declared.Reduce.{Reduce}
-use Rattle.room.specs.Limits.{nobody, last_link}
-use Rattle.room.specs.Record.{no_entry, entry_of, entry_at, with_modes, with_token, with_debt, with_counter, set_entry}
+use Rattle.room.specs.Limits.{last_link}
+use Rattle.room.specs.Record.{no_entry, entry_of, entry_at, is_lender, lender_of, with_modes, with_token, with_debt, with_counter, set_entry}
 use Rattle.room.specs.Owned.{owned}
 
 -- "the counter goes up by 1 and is the new link number"; at the last one it stays, and the step is WORN
@@ -38,7 +38,7 @@ remaining r w = owned (set_entry r w no_entry)
 unfoldable pub passed_to : Room → ℕ → Room
 passed_to r w =
     if eqb (remaining r w) none then left r w
-    else with_debt (left r w) w (remaining r w) (next_link r.counter)
+    else with_debt (left r w) (Some w) (remaining r w) (next_link r.counter)
 
 unfoldable pub passed : Room → ℕ → Passed
 passed r w =
@@ -46,11 +46,11 @@ passed r w =
 
 -- "credit becomes owned, and at none the lender is nobody"
 unfoldable pub credited : Room → ℕ → Room
-credited r m = if eqb m none then with_debt r nobody m 0 else with_debt r r.lender m r.link
+credited r m = if eqb m none then with_debt r None m 0 else with_debt r r.lender m r.link
 
 -- a REDUCE to the lender under the record's link number
 abbrev pub reduce_to : Room → ℕ → Reduce
-reduce_to r m = record { to = r.lender; link = r.link; mode = m }
+reduce_to r m = record { to = lender_of r; link = r.link; mode = m }
 
 -- "Settle (without the token): if owned is weaker than credit, send the lender REDUCE to owned"
 unfoldable pub settled : Room → Changed
@@ -62,12 +62,12 @@ settled r =
 -- "if b has a lender other than a, it sends that lender REDUCE to none under the old link"
 unfoldable pub leaving : Room → ℕ → Option Reduce
 leaving r a =
-    if eqb r.lender nobody || eqb r.lender a then None
+    if is_none r.lender || is_lender r.lender a then None
     else Some (reduce_to r none)
 
 -- "GRANT: .. Then lender a, the new link number, credit and held the mode, wanted none."
 unfoldable pub granted : Room → ℕ → ℕ → ℕ → Changed
-granted r a m l = record { room = with_debt (with_modes r m none) a m l; send = leaving r a }
+granted r a m l = record { room = with_debt (with_modes r m none) (Some a) m l; send = leaving r a }
 
 -- "its counter is the larger of its own and the link number"
 unfoldable pub lifted : ℕ → ℕ → ℕ
@@ -77,7 +77,7 @@ lifted k l = if ltb k l then l else k
 -- with the link number; its counter is the larger of its own and the link number"
 unfoldable pub tokened_by : Room → ℕ → ℕ → ℕ → ℕ → ℕ → Room
 tokened_by r me a m rest l =
-    with_counter (with_debt (with_token (with_modes (set_entry r a (entry_of rest l)) m none) true me) nobody none 0) (lifted r.counter l)
+    with_counter (with_debt (with_token (with_modes (set_entry r a (entry_of rest l)) m none) true me) None none 0) (lifted r.counter l)
 
 unfoldable pub tokened : Room → ℕ → ℕ → ℕ → ℕ → ℕ → Changed
 tokened r me a m rest l = record { room = tokened_by r me a m rest l; send = leaving r a }

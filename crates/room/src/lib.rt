@@ -15,8 +15,6 @@ use parts::{entry_of, larger, next_link};
 pub const MOST_ROOMS: u8 = 16;
 // The same number as a length: of a table's records, and of a record's entries.
 pub const ROOMS: usize = MOST_ROOMS as usize;
-// In place of a lender's number: there is none.
-pub const NOBODY: u8 = 255;
 // No link number is above this one.
 pub const LAST_LINK: u32 = 4294967295;
 
@@ -40,7 +38,7 @@ pub struct Room {
     pub wanted: u8,
     pub token: bool,
     pub toward: u8,
-    pub lender: u8,
+    pub lender: Option<u8>,
     pub credit: u8,
     pub link: u32,
     pub counter: u32,
@@ -91,7 +89,7 @@ impl Room {
             wanted: modes::NONE,
             token: false,
             toward: 0,
-            lender: NOBODY,
+            lender: None,
             credit: modes::NONE,
             link: 0,
             counter: 0,
@@ -174,7 +172,7 @@ impl Room {
         match rest {
             modes::NONE => {}
             modes::IR..=255 => {
-                room.lender = w;
+                room.lender = Some(w);
                 room.credit = rest;
                 room.link = link;
             }
@@ -187,12 +185,12 @@ impl Room {
         }
     }
 
-    // The REDUCE to its lender by which what it owes falls to this mode.
+    // The REDUCE to its lender by which what it owes falls to this mode. Only a damaged record has a credit and no lender: no room has its number.
     fn reduce_to(self, mode: u8) -> Reduce
         ensures { result ≡ reduce_to self mode }
     {
         Reduce {
-            to: self.lender,
+            to: self.lender.unwrap_or(u8::MAX),
             link: self.link,
             mode,
         }
@@ -215,7 +213,7 @@ impl Room {
         room.credit = now;
         match now {
             modes::NONE => {
-                room.lender = NOBODY;
+                room.lender = None;
                 room.link = 0;
             }
             modes::IR..=255 => {}
@@ -224,11 +222,12 @@ impl Room {
     }
 
     // What taking a loan or the token from a sends to another lender.
-    #[tactic(auto, unfolding(crate::specs::Rules::leaving))]
+    #[tactic(auto, unfolding(crate::specs::Rules::leaving, crate::specs::Record::is_lender))]
     fn leave(self, a: u8) -> Option<Reduce>
         ensures { result ≡ leaving self a }
     {
-        if self.lender == NOBODY || self.lender == a {
+        let lender = self.lender?;
+        if lender == a {
             return None;
         }
         Some(self.reduce_to(modes::NONE))
@@ -241,7 +240,7 @@ impl Room {
     {
         let send = self.leave(a);
         let mut room = self;
-        room.lender = a;
+        room.lender = Some(a);
         room.link = link;
         room.credit = mode;
         room.held = mode;
@@ -260,7 +259,7 @@ impl Room {
         room.wanted = modes::NONE;
         room.token = true;
         room.toward = me;
-        room.lender = NOBODY;
+        room.lender = None;
         room.credit = modes::NONE;
         room.link = 0;
         room.counter = self.counter.max(link);

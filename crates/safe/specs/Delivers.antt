@@ -5,6 +5,7 @@ use Rattle.std.proofs.Common.{sym, ◌∙◌, append-nil, arith, eq-eqb}
 use Rattle.base.specs.Choice.{by-test}
 use Rattle.base.specs.Sums.{one}
 use Rattle.base.specs.Lists.{Mem, remove, mem-at}
+use Rattle.std.specs.Prelude.{Some}
 use Rattle.modes.specs.Codes.{IR}
 use Rattle.modes.specs.Under.{under}
 use Rattle.room.specs.declared.Room.{Room}
@@ -108,13 +109,13 @@ module _ (n : ℕ) (rooms : ℕ → Room) (messages : List Wire) (me : ℕ) (roo
       })
     where
       lending : Room
-      lending = with_debt (with_modes room m 0) a m l
+      lending = with_debt (with_modes room m 0) (Some a) m l
 
       low : me < n
       low = taken.low
 
-      now-lent : new lending me ≡ with_debt (with_modes (old me) m 0) a m l
-      now-lent = here lending ∙ sym (ap (λ (r : Room). with_debt (with_modes r m 0) a m l) at-me)
+      now-lent : new lending me ≡ with_debt (with_modes (old me) m 0) (Some a) m l
+      now-lent = here lending ∙ sym (ap (λ (r : Room). with_debt (with_modes r m 0) (Some a) m l) at-me)
 
       grant : Mem (wire a me (msg.Grant m l)) messages
       grant = rw (← at.there) (mem-at messages k no_wire at.low)

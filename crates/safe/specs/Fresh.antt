@@ -9,14 +9,16 @@ use Rattle.std.proofs.lemmas.List.{get_or-replicate}
 use Rattle.base.specs.Choice.{by-test}
 use Rattle.base.specs.Tests.{clash}
 use Rattle.base.specs.Folds.{folds}
+use Rattle.std.specs.Prelude.{Some, None}
 use Rattle.modes.specs.Codes.{none}
 use Rattle.modes.proofs.Laws.{none-agrees, low_small}
 use Rattle.room.specs.declared.Room.{Room}
 use Rattle.room.specs.declared.Entry.{Entry}
-use Rattle.room.specs.Limits.{room_limit, nobody}
+use Rattle.room.specs.Limits.{room_limit}
 use Rattle.room.specs.Record.{no_entry, entry_at}
 use Rattle.room.specs.Owned.{owned}
 use Rattle.room.proofs.Owning.{owned-none, no-entries-of}
+use Rattle.room.proofs.Lenders.{nobody-lends}
 use Rattle.table.specs.Tables.{room_at, queue_of, messages_of, fresh_table}
 use Rattle.rules.specs.Rules.{upgrade_waits}
 use Rattle.facts.specs.Whole.{facts-of}
@@ -33,7 +35,7 @@ use Rattle.safe.specs.Invariant.{Clauses, Invariant}
 pub record Blank (r : Room) : Type 0 where
   pub held : r.held ≡ 0
   pub wanted : r.wanted ≡ 0
-  pub lender : r.lender ≡ nobody
+  pub lender : r.lender ≡ None
   pub credit : r.credit ≡ 0
   pub counter : r.counter ≡ 0
   pub entries : r.entries ≡ replicate room_limit no_entry
@@ -65,8 +67,8 @@ module _ (n : ℕ) (some : 1 ≤ n) (most : n ≤ room_limit) where
   agreeing : (c : ℕ) → c < n → Agreeing (rooms c)
   agreeing c l i j a b e = rw (no_part c i l, no_part c j l) (none-agrees none (omega arith))
 
-  no-lender : (p c : ℕ) → p < n → c < n → (rooms c).lender ≢ p
-  no-lender p c lp l e = omega (arith, (blank c l).lender)
+  no-lender : (p c : ℕ) → p < n → c < n → (rooms c).lender ≢ Some p
+  no-lender p c lp l e = nobody-lends (blank c l).lender e
 
   clauses : Clauses n rooms [] [] 0
   unfolding folds

@@ -8,10 +8,11 @@ use Rattle.base.specs.Choice.{by-test, split}
 use Rattle.base.specs.Tests.{and_left, and_right, clash}
 use Rattle.base.specs.Sums.{one, one-le}
 use Rattle.base.specs.Lists.{Mem, count, remove, mem-remove, mem-at}
+use Rattle.std.specs.Prelude.{None}
 use Rattle.modes.specs.Modes.{can_lend}
 use Rattle.modes.proofs.Laws.{none-under}
 use Rattle.room.specs.declared.Room.{Room}
-use Rattle.room.specs.Limits.{room_limit, nobody}
+use Rattle.room.specs.Limits.{room_limit}
 use Rattle.room.specs.Owned.{owned}
 use Rattle.room.specs.Rules.{next_link, is_worn, lent, lent_to}
 use Rattle.table.specs.declared.Wire.{Wire}
@@ -180,7 +181,7 @@ module _ (n : ℕ) (rooms : ℕ → Room) (messages : List Wire) (me : ℕ) (roo
       owns : owned (old o) ≡ 0
       owns = inv.clauses.idle (wire a me (msg.Request o m idle)) request o m (ap (λ (b : Bool). msg.Request o m b) says)
 
-      free : (old o).lender ≡ nobody
+      free : (old o).lender ≡ None
       free = (inv.sound.room o near).none-nobody (inv.exact o near tokenless ∙ owns)
 
       untold : NoTokenTo o kept

@@ -2,9 +2,10 @@
 use Rattle.std.specs.Prelude.{◌≡◌, refl, ◌≢◌, true, false, List, [], ◌∷◌, ◌++◌, ℕ, ◌+◌, ◌≤◌, ◌<◌, length}
 use Rattle.std.proofs.Common.{true≢false, arith}
 use Rattle.base.specs.Lists.{Mem}
+use Rattle.std.specs.Prelude.{None}
 use Rattle.modes.specs.Modes.{agrees, can_lend}
 use Rattle.room.specs.declared.Room.{Room}
-use Rattle.room.specs.Limits.{room_limit, nobody}
+use Rattle.room.specs.Limits.{room_limit}
 use Rattle.room.specs.Owned.{owned}
 use Rattle.room.specs.Rules.{next_link, remaining, passed_to}
 use Rattle.table.specs.declared.Wire.{Wire}
@@ -52,7 +53,7 @@ module _ (n : ℕ) (old new : ℕ → Room) (queue : List Queued) (messages : Li
   abbrev token : Wire
   token = wire me y (msg.Token m (remaining (old me) y) link)
 
-  free : (old me).lender ≡ nobody
+  free : (old me).lender ≡ None
   free = (s.room me low).token-free with
 
   none : (w : Wire) → Mem w messages → is_token w.message ≡ false

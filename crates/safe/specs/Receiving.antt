@@ -3,11 +3,12 @@ use Rattle.std.specs.Prelude.{◌≡◌, ◌≢◌, true, false, List, ◌++◌,
 use Rattle.std.proofs.Math.Path.{refl}
 use Rattle.std.proofs.Common.{◌∙◌, ap, ⊎_elim, append-nil, arith}
 use Rattle.base.specs.Lists.{Mem, remove, mem-at}
+use Rattle.std.specs.Prelude.{Some}
 use Rattle.modes.specs.Codes.{IR}
 use Rattle.modes.specs.Under.{small}
 use Rattle.room.specs.declared.Room.{Room}
 use Rattle.room.specs.Limits.{room_limit}
-use Rattle.room.specs.Record.{entry_of, with_modes, with_debt, set_entry}
+use Rattle.room.specs.Record.{entry_of, with_modes, with_debt, set_entry, lender_of}
 use Rattle.room.specs.Rules.{tokened_by, reduced}
 use Rattle.table.specs.declared.Wire.{Wire}
 use Rattle.table.specs.declared.Queued.{Queued}
@@ -41,7 +42,7 @@ sender-leaving : (rooms : ℕ → Room) (messages : List Wire) (me : ℕ) (r : R
 unfolding is_token
 sender-leaving rooms messages me r a s =
     leaving-either me r a (λ (l : List Wire). Sender rooms (messages ++ l)) (rw (append-nil messages) s)
-    (λ b. sender-sent rooms rooms messages s (λ c. refl) (λ c. omega arith) (wire me r.lender (msg.Reduce r.link 0)) refl
+    (λ b. sender-sent rooms rooms messages s (λ c. refl) (λ c. omega arith) (wire me (lender_of r) (msg.Reduce r.link 0)) refl
     (λ w i j rest l e o h idle q. absurd (omega (arith, ap kind q))))
 
 -- nor is anything behind it
@@ -60,7 +61,7 @@ module _ (n : ℕ) (old new : ℕ → Room) (queue : List Queued) (messages : Li
   there m o = rw (← o.there) (mem-at messages p no_wire o.low)
 
   -- "GRANT"
-  pub clauses-grant : (m l : ℕ) → Oldest messages p a me (msg.Grant m l) → new me ≡ with_debt (with_modes (old me) m 0) a m l
+  pub clauses-grant : (m l : ℕ) → Oldest messages p a me (msg.Grant m l) → new me ≡ with_debt (with_modes (old me) m 0) (Some a) m l
       → Unnamed me (remove p messages) → small m ≡ true → Clauses n new queue (remove p messages ++ leaving_sent me (old me) a) hand
   clauses-grant m l o here unnamed weak =
       let both =

@@ -4,6 +4,7 @@ use Rattle.std.proofs.Math.Path.{sym}
 use Rattle.std.proofs.Common.{◌∙◌, ap}
 use Rattle.std.proofs.Math.Bool.{true}
 use mathlib.Core.List.{List, [], ◌∷◌, ◌++◌, append_assoc}
+use Rattle.room.specs.Record.{lender_of}
 use Rattle.modes.specs.Modes.{is_stronger}
 use Rattle.room.specs.declared.Room.{Room}
 use Rattle.room.specs.declared.Changed.{Changed}
@@ -65,8 +66,8 @@ module _ (n : ℕ) (rooms : ℕ → Room) (kept : List Wire) (w : Work) (a : Owi
   now-paid = here ∙ sym (ap (λ (r : Room). credited r (owned r)) at-me)
 
   -- "if owned is weaker than credit, send the lender REDUCE to owned"
-  paying : is_stronger w.room.credit own ≡ true → Whole n rooms kept (send (with_room w paid) w.room.lender (msg.Reduce w.room.link own))
-      → Done n rooms kept (send (with_room w paid) w.room.lender (msg.Reduce w.room.link own))
+  paying : is_stronger w.room.credit own ≡ true → Whole n rooms kept (send (with_room w paid) (lender_of w.room) (msg.Reduce w.room.link own))
+      → Done n rooms kept (send (with_room w paid) (lender_of w.room) (msg.Reduce w.room.link own))
   unfolding send
   paying falls whole =
       record {
@@ -74,7 +75,7 @@ module _ (n : ℕ) (rooms : ℕ → Room) (kept : List Wire) (w : Work) (a : Owi
         invariant =
             record {
               sound = whole.moment;
-              clauses = rw (← append_assoc kept w.sent (wire me w.room.lender (msg.Reduce w.room.link own) ∷ [])) (rw at-me at clauses);
+              clauses = rw (← append_assoc kept w.sent (wire me (lender_of w.room) (msg.Reduce w.room.link own) ∷ [])) (rw at-me at clauses);
               exact = exact-settle n old new me a.whole.low others a.exact now-paid;
               light =
                   light-weaker n old new w.queue me a.whole.low others a.light (ap (λ (r : Room). r.token) at-me ∙ without)
@@ -90,7 +91,7 @@ module _ (n : ℕ) (rooms : ℕ → Room) (kept : List Wire) (w : Work) (a : Owi
       falls-old : is_stronger (old me).credit (owned (old me)) ≡ true
       falls-old = rw at-me falls
 
-      clauses : Clauses n new w.queue (kept ++ w.sent ++ (wire me (old me).lender (msg.Reduce (old me).link (owned (old me))) ∷ [])) 0
+      clauses : Clauses n new w.queue (kept ++ w.sent ++ (wire me (lender_of (old me)) (msg.Reduce (old me).link (owned (old me))) ∷ [])) 0
       clauses =
           clauses-settle n old new w.queue (kept ++ w.sent) me a.whole.low a.whole.small others 0 a.clauses
           (a.whole.moment.room me a.whole.low) (λ v i. (a.whole.moment.right v i).facts.from_low) now-paid falls-old

@@ -3,14 +3,16 @@ use Rattle.std.specs.Prelude.{◌≡◌, ◌≢◌, true, List, [], ◌∷◌, �
 use Rattle.std.proofs.Math.Path.{refl, ap}
 use Rattle.std.proofs.Common.{◌∙◌, arith}
 use Rattle.base.specs.Lists.{Mem}
+use Rattle.std.specs.Prelude.{None}
 use Rattle.modes.specs.Codes.{IR}
 use Rattle.modes.specs.Modes.{is_stronger}
 use Rattle.modes.proofs.Laws.{stronger-true}
 use Rattle.room.specs.declared.Room.{Room}
-use Rattle.room.specs.Limits.{room_limit, nobody}
-use Rattle.room.specs.Record.{with_modes, with_debt}
+use Rattle.room.specs.Limits.{room_limit}
+use Rattle.room.specs.Record.{with_modes, with_debt, lender_of}
 use Rattle.room.specs.Owned.{owned}
 use Rattle.room.specs.Rules.{credited}
+use Rattle.room.proofs.Lenders.{lends-other}
 use Rattle.table.specs.declared.Wire.{Wire}
 use Rattle.table.specs.declared.Queued.{Queued}
 use Rattle.table.specs.declared.Message.TheVariants as msg
@@ -63,16 +65,19 @@ module _ (n : ℕ) (old new : ℕ → Room) (queue : List Queued) (messages : Li
     own = owned (old me)
 
     abbrev reduce : Wire
-    reduce = wire me (old me).lender (msg.Reduce (old me).link own)
+    reduce = wire me (lender_of (old me)) (msg.Reduce (old me).link own)
 
     less : own < (old me).credit
     less = stronger-true (old me).credit own falls
 
-    lender-low : (old me).lender < n
-    lender-low = facts.lender-low (λ e. omega (arith, less, facts.nobody-none e))
+    lent : (old me).lender ≢ None
+    lent e = omega (arith, less, facts.nobody-none e)
+
+    lender-low : lender_of (old me) < n
+    lender-low = facts.lender-low lent
 
     -- what settling leaves alone
-    same : {A : Type 0} (f : Room → A) → f (with_debt (old me) nobody own 0) ≡ f (old me) → f (with_debt (old me) (old me).lender own (old me).link) ≡ f (old me)
+    same : {A : Type 0} (f : Room → A) → f (with_debt (old me) None own 0) ≡ f (old me) → f (with_debt (old me) (old me).lender own (old me).link) ≡ f (old me)
         → f (new me) ≡ f (old me)
     same f p q = ap f here ∙ credited-either (old me) own (λ (r : Room). f r ≡ f (old me)) (λ e. p) (λ e. q)
 
@@ -80,16 +85,16 @@ module _ (n : ℕ) (old new : ℕ → Room) (queue : List Queued) (messages : Li
     unfolding is_token
     clauses-settle =
         record {
-          ledger = ledger-pay n old new messages me others k.ledger own here less lender-low facts.lender-other limit k.links;
+          ledger = ledger-pay n old new messages me others k.ledger own here less lender-low (lends-other (old me) me lent facts.lender-other) limit k.links;
           links = links-pay n old new messages me others k.links own here lender-low low limit senders;
           sender =
               sender-sent old new messages k.sender (alike old new me others (λ r. r.toward) (same (λ r. r.toward) refl refl))
               (counters-kept n old new messages me others k.links (omega (arith, same (λ r. r.counter) refl refl)))
               reduce refl (λ w i j rest l e o h idle q. absurd (omega (arith, ap kind q)));
-          small = small-settle n old new messages me low others k.small (old me).lender (old me).link here weak;
-          pairs = pairs-settle n old new messages me low others k.pairs (old me).lender (old me).link own here;
-          fits = fits-settle n old new messages me low others k.fits (k.pairs.room me low) (old me).lender (old me).link own here;
-          idle = idle-settle n old new messages me low others k.idle (k.pairs.room me low) (old me).lender (old me).link own here;
+          small = small-settle n old new messages me low others k.small (lender_of (old me)) (old me).link here weak;
+          pairs = pairs-settle n old new messages me low others k.pairs (lender_of (old me)) (old me).link own here;
+          fits = fits-settle n old new messages me low others k.fits (k.pairs.room me low) (lender_of (old me)) (old me).link own here;
+          idle = idle-settle n old new messages me low others k.idle (k.pairs.room me low) (lender_of (old me)) (old me).link own here;
           tree = settle-tree n old new messages me low others k.tree own here;
           few = messages-settle n old new messages me low others queue hand weak falls here k.few;
           counters = counters-settle n old new messages me low others queue hand here k.counters;

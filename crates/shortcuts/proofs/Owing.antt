@@ -8,9 +8,11 @@ use Rattle.base.specs.Arrays.{padded}
 use Rattle.base.specs.Tests.{clash}
 use Rattle.modes.specs.Codes.{R, W}
 use Rattle.modes.specs.Modes.{agrees, is_stronger, can_lend}
-use Rattle.room.specs.Record.{entry_of}
+use Rattle.room.specs.Record.{entry_of, is_lender}
 use Rattle.room.specs.Owned.{larger, strongest, owned}
 use Rattle.room.specs.Rules.{next_link, is_worn, lent_to, lent, settled, leaving, granted}
+use Rattle.std.specs.Prelude.{Some}
+use Rattle.room.proofs.Lenders.{nobody-lends}
 use Rattle.table.specs.declared.Table.{Table}
 use Rattle.table.specs.declared.Wire.{Wire}
 use Rattle.table.specs.Tables.{Answer}
@@ -46,7 +48,7 @@ unanswered = runs_by (rules_by lent_to_anyone) crossed (delivers 1 2 ∷ deliver
 
 record Owes : Type 0 where
   -- room 1 still owes room 2, and its own GRANT is under way there
-  debt : (room_at crossed 1).lender ≡ 2
+  debt : (room_at crossed 1).lender ≡ Some 2
   grant : messages_of crossed ≡ wire 1 2 (msg.Grant R 1) ∷ []
   -- room 0 writes beside two reads
   held : held_in unanswered ≡ W ∷ R ∷ R ∷ []
@@ -54,7 +56,7 @@ record Owes : Type 0 where
 owes : Owes
 unfolding crossing crossed unanswered runs_by step_by made_by delivered_by outcome after refusal_as first is_found any_worn oldest_of oldest_in
     reduced_by serve_queue_by serve_by settle_or_serve_by ask_by take_request_by receive_by upgraded upgrade_waits settle lend hold is_empty send send_out
-    next_link is_worn lent_to lent settled leaving granted entry_of larger strongest owned agrees is_stronger can_lend remove padded
+    next_link is_worn lent_to lent settled leaving is_lender granted entry_of larger strongest owned agrees is_stronger can_lend remove padded
 owes = record { debt = refl; grant = refl; held = refl }
 
 -- By the rules every event leads on to a table with the invariant.
@@ -70,7 +72,7 @@ crossed-owing tree =
     omega (
       arith,
       tree.grant (wire 1 2 (msg.Grant R 1)) there refl,
-      rw owes.debt at (tree.lender 1 (omega arith) (λ e. omega (arith, owes.debt)) no-token),
+      rw owes.debt at (tree.lender 1 (omega arith) (λ e. nobody-lends e owes.debt) no-token),
     )
   where
     no-token : (w : Wire) → Mem w (messages_of crossed) → is_token w.message ≡ true → w.to ≢ 1

@@ -9,14 +9,16 @@ use Rattle.base.specs.Below.{all_below, all_pairs, all-at, pairs-at}
 use Rattle.base.specs.Sums.{sum}
 use Rattle.base.specs.Lists.{Mem, total}
 use Rattle.base.specs.Folds.{folds}
+use Rattle.std.specs.Prelude.{Some, is_none}
 use Rattle.modes.specs.Codes.{none, IR, R}
 use Rattle.modes.specs.Modes.{agrees, is_stronger}
 use Rattle.modes.specs.Under.{small}
 use Rattle.room.specs.declared.Room.{Room}
 use Rattle.room.specs.declared.Entry.{Entry}
-use Rattle.room.specs.Limits.{room_limit, nobody}
-use Rattle.room.specs.Record.{entry_at, blank_room, with_modes, with_token, with_debt, with_counter, set_entry}
+use Rattle.room.specs.Limits.{room_limit}
+use Rattle.room.specs.Record.{entry_at, blank_room, with_modes, with_token, with_debt, with_counter, set_entry, lender_of, is_lender}
 use Rattle.room.specs.Owned.{larger, strongest, owned}
+use Rattle.room.proofs.Lenders.{is-lender, some-is}
 use Rattle.table.specs.declared.Table.{Table}
 use Rattle.table.specs.declared.Wire.{Wire}
 use Rattle.table.specs.declared.Message.{Message}
@@ -51,11 +53,11 @@ lending = with_counter (set_entry (with_token blank_room true 0) 2 loan) 1
 
 -- room 1 reads by a loan from room 2
 abbrev reading : Room
-reading = with_debt (with_modes blank_room R none) 2 R 1
+reading = with_debt (with_modes blank_room R none) (Some 2) R 1
 
 -- room 2 has lent to room 1, by a loan from room 0, and waits for a read
 abbrev waiting : Room
-waiting = with_counter (set_entry (with_debt (with_token (with_modes blank_room none R) false 1) 0 R 1) 1 loan) 1
+waiting = with_counter (set_entry (with_debt (with_token (with_modes blank_room none R) false 1) (Some 0) R 1) 1 loan) 1
 
 unfoldable pub crossing : Table
 crossing =
@@ -86,7 +88,7 @@ other w i m e h = clash (ap is_request (sym e ∙ only w i)) h
 
 -- well formed, by the test
 lawful : Lawful crossing
-unfolding crossing well_formed sizes_fit rooms_fine room_fine holds_rightly owes_rightly entries_fine entry_fine is_blank_room is_blank_entry queue_fine is_blank_queued
+unfolding crossing well_formed sizes_fit rooms_fine room_fine holds_rightly owes_rightly is_lender entries_fine entry_fine is_blank_room is_blank_entry queue_fine is_blank_queued
     wires_fine wire_fine message_fine is_granted names_rightly is_blank_wire is_nothing tokens is_token names_fine names is_named_in due sum total
 lawful = (refl, unowned, record { rooms = refl; entries = entries; queue = refl; wires = refl })
   where
@@ -107,7 +109,7 @@ same-entry d e h = λ i. record { mode = mode i; link = link i }
     link = eqb-true _ _ (and_right (eqb d.mode e.mode) _ h)
 
 ledger : Ledger 3 rooms messages
-unfolding crossing folds arriving flush owe debt
+unfolding crossing folds arriving flush owe debt is_lender
 ledger p c lp lc ne =
     same-entry (flushed rooms messages p c) (owed rooms messages p c)
     (implies-use (not (eqb p c)) _ (pairs-at 3 alike refl p c lp lc) (ap not (ne_eqb p c ne)))
@@ -119,17 +121,17 @@ ledger p c lp lc ne =
         not (eqb p c) implies (eqb d.mode e.mode && eqb d.link e.link)
 
 links : Links 3 rooms messages
-unfolding crossing folds arriving is_request
+unfolding crossing folds arriving is_request is_lender
 links =
     record {
       reduce = λ w i l m e. other w i _ e refl;
-      debt = λ p c lp lc e. leb-true _ _ (implies-use (eqb (rooms c).lender p) _ (pairs-at 3 within refl p c lp lc) (eq-eqb _ _ e));
+      debt = λ p c lp lc e. leb-true _ _ (implies-use (is_lender (rooms c).lender p) _ (pairs-at 3 within refl p c lp lc) (is-lender _ _ e));
       grant = λ w i m l e. other w i _ e refl;
       differs = λ w i m l e. other w i _ e refl;
     }
   where
     within : ℕ → ℕ → Bool
-    within p c = eqb (rooms c).lender p implies leb (rooms c).link (reach rooms messages p c)
+    within p c = is_lender (rooms c).lender p implies leb (rooms c).link (reach rooms messages p c)
 
 smalls : Small 3 rooms messages
 unfolding crossing small is_request
@@ -167,7 +169,7 @@ unfolding crossing is_grant
 tree =
     record {
       rank = rank;
-      lender = λ c l ne free. ltb-true _ _ (implies-use (not (eqb (rooms c).lender nobody)) _ (all-at 3 above refl c l) (ap not (ne_eqb _ _ ne)));
+      lender = λ c l ne free. ltb-true _ _ (implies-use (not (is_none (rooms c).lender)) _ (all-at 3 above refl c l) (ap not (some-is _ ne)));
       grant = λ w i h. clash h (rw (only w i) refl);
     }
   where
@@ -175,7 +177,7 @@ tree =
     rank c = get_or (0 ∷ 2 ∷ 1 ∷ []) c 0
 
     above : ℕ → Bool
-    above c = not (eqb (rooms c).lender nobody) implies ltb (rank (rooms c).lender) (rank c)
+    above c = not (is_none (rooms c).lender) implies ltb (rank (lender_of (rooms c))) (rank c)
 
 clauses : Clauses 3 rooms [] messages 0
 unfolding crossing is_token sum total level weight is_request

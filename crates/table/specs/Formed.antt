@@ -5,11 +5,12 @@ use Rattle.base.specs.Tests.{◌implies◌}
 use Rattle.base.specs.Below.{all_below}
 use Rattle.base.specs.Sums.{one, count_below}
 use Rattle.base.specs.Lists.{count}
+use Rattle.std.specs.Prelude.{is_none}
 use Rattle.modes.specs.Codes.{none, IR, R, U, IW, W, is_code}
 use Rattle.room.specs.declared.Room.{Room}
 use Rattle.room.specs.declared.Entry.{Entry}
-use Rattle.room.specs.Limits.{room_limit, nobody}
-use Rattle.room.specs.Record.{no_entry, entry_at}
+use Rattle.room.specs.Limits.{room_limit}
+use Rattle.room.specs.Record.{no_entry, entry_at, lender_of, is_lender}
 use Rattle.table.specs.declared.Table.{Table}
 use Rattle.table.specs.declared.Wire.{Wire}
 use Rattle.table.specs.declared.Queued.{Queued}
@@ -49,15 +50,15 @@ holds_rightly held wanted token =
 unfoldable pub owes_rightly : ℕ → ℕ → Room → Bool
 owes_rightly n c r =
     is_code r.credit
-    && (eqb r.lender nobody || ltb r.lender n)
+    && (is_none r.lender || ltb (lender_of r) n)
     -- "no lender is oneself"
-    && not (eqb r.lender c)
+    && not (is_lender r.lender c)
     -- "and so has a room without a lender" link number zero
-    && (eqb r.lender nobody implies eqb r.link 0)
+    && (is_none r.lender implies eqb r.link 0)
     -- "lender is nobody exactly when credit is none"
-    && beq (eqb r.lender nobody) (eqb r.credit none)
+    && beq (is_none r.lender) (eqb r.credit none)
     -- "the room with the token has no lender"
-    && (r.token implies eqb r.lender nobody)
+    && (r.token implies is_none r.lender)
 
 -- the record of room c of n
 unfoldable pub room_fine : ℕ → ℕ → Room → Bool
@@ -75,7 +76,7 @@ is_blank_entry e = eqb e.mode none && eqb e.link 0
 
 unfoldable pub is_blank_room : Room → Bool
 is_blank_room r =
-    eqb r.held none && eqb r.wanted none && not r.token && eqb r.toward 0 && eqb r.lender nobody && eqb r.credit none
+    eqb r.held none && eqb r.wanted none && not r.token && eqb r.toward 0 && is_none r.lender && eqb r.credit none
     && eqb r.link 0 && eqb r.counter 0 && all_below room_limit (λ j. is_blank_entry (entry_at r j))
 
 -- the mode that a waiting room without an upgrade waits for; none for any other

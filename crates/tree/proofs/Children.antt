@@ -1,14 +1,16 @@
 -- No children: a room that is not the root and owns nothing is lender of none but the root, and no GRANT of its is under way.
 use Rattle.std.specs.Prelude.{◌≡◌, refl, ◌⊎◌, ◌≢◌, List, ℕ, ◌≤◌, ◌<◌}
-use Rattle.std.proofs.Common.{sym, ◌∙◌, ap, inl, inr, ⊎_elim, arith, eq-eqb}
+use Rattle.std.proofs.Common.{sym, ◌∙◌, ap, inl, inr, ⊎_elim, arith}
 use Rattle.base.specs.Lists.{Mem, count}
+use Rattle.std.specs.Prelude.{Some, None}
 use Rattle.modes.specs.Under.{under}
 use Rattle.room.specs.declared.Room.{Room}
 use Rattle.room.specs.declared.Entry.{Entry}
-use Rattle.room.specs.Limits.{room_limit, nobody}
+use Rattle.room.specs.Limits.{room_limit}
 use Rattle.room.specs.Record.{entry_at}
 use Rattle.room.specs.Owned.{owned}
 use Rattle.room.proofs.Owning.{owned-entry}
+use Rattle.room.proofs.Lenders.{is-lender, nobody-lends}
 use Rattle.table.specs.declared.Wire.{Wire}
 use Rattle.table.specs.declared.Message.TheVariants as msg
 use Rattle.table.specs.Formed.{is_named_in}
@@ -44,18 +46,18 @@ module _ (n : ℕ) (rooms : ℕ → Room) (messages : List Wire) (limit : n ≤ 
   owed_none c h other = ap (λ (e : Entry). e.mode) (sym (ledger y c low h (λ e. other (sym e)))) ∙ flushed-none c h
 
   -- it is lender of no room but one to which a TOKEN is under way
-  pub no-borrower : (c : ℕ) → c < n → c ≢ y → NoTokenTo c messages → (rooms c).lender ≢ y
+  pub no-borrower : (c : ℕ) → c < n → c ≢ y → NoTokenTo c messages → (rooms c).lender ≢ Some y
   unfolding debt
   no-borrower c h other quiet is = go (owed-by y c (debt (rooms c) y) messages)
     where
       credit : (debt (rooms c) y).mode ≡ (rooms c).credit
-      credit = simp (eq-eqb (rooms c).lender y is)
+      credit = simp (is-lender (rooms c).lender y is)
 
       go : (owed rooms messages y c ≡ debt (rooms c) y)
           ⊎ (GrantOn messages y c (owed rooms messages y c) ⊎ ((rest : ℕ) × TokenOn messages y c rest)) → ⊥
       go (inl q) =
-          let free : (rooms c).lender ≡ nobody = (facts c h).none-nobody (sym credit ∙ sym (ap (λ (e : Entry). e.mode) q) ∙ owed_none c h other) in
-          omega arith
+          let free : (rooms c).lender ≡ None = (facts c h).none-nobody (sym credit ∙ sym (ap (λ (e : Entry). e.mode) q) ∙ owed_none c h other) in
+          nobody-lends free is
       go (inr (inl g)) =
           omega (arith, owed_none c h other, grant-some g.wire g.member _ _ g.is)
       go (inr (inr (rest, t))) = token-told t quiet

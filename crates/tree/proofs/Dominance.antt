@@ -1,16 +1,18 @@
 -- Dominance: every room but the root owns nothing, or a mode that is under an entry of the root or under what remains to a TOKEN's sender.
-use Rattle.std.specs.Prelude.{◌≡◌, refl, ◌⊎◌, ◌≢◌, true, List, ℕ, zero, suc, ◌≤◌, ◌<◌}
-use Rattle.std.proofs.Common.{sym, ◌∙◌, ap, subst, ⊎_elim, arith, eq-eqb}
+use Rattle.std.specs.Prelude.{◌≡◌, ◌⊎◌, ◌≢◌, true, List, ℕ, zero, suc, ◌≤◌, ◌<◌}
+use Rattle.std.proofs.Common.{sym, ◌∙◌, ap, subst, ⊎_elim, arith}
 use Rattle.std.proofs.Math.Logic.{inl, inr}
 use Rattle.base.specs.Sums.{same?}
 use Rattle.base.specs.Tests.{clash}
+use Rattle.std.specs.Prelude.{None}
 use Rattle.modes.specs.Under.{under}
 use Rattle.modes.proofs.Laws.{under-refl, under-trans}
 use Rattle.room.specs.declared.Room.{Room}
 use Rattle.room.specs.declared.Entry.{Entry}
-use Rattle.room.specs.Limits.{room_limit, nobody}
-use Rattle.room.specs.Record.{entry_at}
+use Rattle.room.specs.Limits.{room_limit}
+use Rattle.room.specs.Record.{entry_at, lender_of}
 use Rattle.room.specs.Owned.{owned}
+use Rattle.room.proofs.Lenders.{is-lender, lends, lends-other}
 use Rattle.table.specs.declared.Wire.{Wire}
 use Rattle.table.specs.Formed.{is_token, tokens}
 use Rattle.facts.specs.Rooms.{RoomFacts}
@@ -32,27 +34,27 @@ abbrev pub Dominated : (ℕ → Room) → List Wire → ℕ → ℕ → Type 0
 Dominated rooms messages r c = (owned (rooms c) ≡ 0) ⊎ ((m : ℕ) × Pool rooms messages r m × (under (owned (rooms c)) m ≡ true))
 
 -- what a room owes to its lender by its record
-debt-mode : (r : Room) → (debt r r.lender).mode ≡ r.credit
+debt-mode : (r : Room) → r.lender ≢ None → (debt r (lender_of r)).mode ≡ r.credit
 unfolding debt
-debt-mode r = simp (eq-eqb r.lender r.lender refl)
+debt-mode r some = simp (is-lender r.lender (lender_of r) (lends r some))
 
 module _ (n : ℕ) (rooms : ℕ → Room) (messages : List Wire) (limit : n ≤ room_limit) (facts : (c : ℕ) → c < n → RoomFacts n c (rooms c))
     (ledger : Ledger n rooms messages) (exact : Exact n rooms) (small : Small n rooms messages) (pairs : Pairs n rooms messages)
     (fits : Fits rooms messages) (tree : Tree n rooms messages) where
   module _ (r : ℕ) (root : Root n rooms messages r) where
     -- what a room owns is under what it owes its lender
-    own-owed : (c : ℕ) → c < n → c ≢ r → under (owned (rooms c)) (owed rooms messages (rooms c).lender c).mode ≡ true
-    own-owed c low other = go (owed-by (rooms c).lender c (debt (rooms c) (rooms c).lender) messages)
+    own-owed : (c : ℕ) → c < n → c ≢ r → (rooms c).lender ≢ None → under (owned (rooms c)) (owed rooms messages (lender_of (rooms c)) c).mode ≡ true
+    own-owed c low other lent = go (owed-by (lender_of (rooms c)) c (debt (rooms c) (lender_of (rooms c))) messages)
       where
-        go : (owed rooms messages (rooms c).lender c ≡ debt (rooms c) (rooms c).lender)
-            ⊎ (GrantOn messages (rooms c).lender c (owed rooms messages (rooms c).lender c) ⊎ ((rest : ℕ) × TokenOn messages (rooms c).lender c rest))
-            → under (owned (rooms c)) (owed rooms messages (rooms c).lender c).mode ≡ true
+        go : (owed rooms messages (lender_of (rooms c)) c ≡ debt (rooms c) (lender_of (rooms c)))
+            ⊎ (GrantOn messages (lender_of (rooms c)) c (owed rooms messages (lender_of (rooms c)) c) ⊎ ((rest : ℕ) × TokenOn messages (lender_of (rooms c)) c rest))
+            → under (owned (rooms c)) (owed rooms messages (lender_of (rooms c)) c).mode ≡ true
         go (inl q) =
             ap (λ (m : ℕ). under (owned (rooms c)) m)
-            (ap (λ (e : Entry). e.mode) q ∙ debt-mode (rooms c) ∙ exact c low (root.tokenless c low other))
+            (ap (λ (e : Entry). e.mode) q ∙ debt-mode (rooms c) lent ∙ exact c low (root.tokenless c low other))
             ∙ under-refl (owned (rooms c))
         go (inr (inl g)) =
-            ap (λ (x : ℕ). under (owned (rooms x)) (owed rooms messages (rooms c).lender c).mode) (sym g.receiver)
+            ap (λ (x : ℕ). under (owned (rooms x)) (owed rooms messages (lender_of (rooms c)) c).mode) (sym g.receiver)
             ∙ fits g.wire g.member _ _ g.is
         go (inr (inr (rest, t))) = absurd (token-told t (root.untold c low other))
 
@@ -60,9 +62,9 @@ module _ (n : ℕ) (rooms : ℕ → Room) (messages : List Wire) (limit : n ≤ 
     module _ (c : ℕ) (low : c < n) (other : c ≢ r) (some : owned (rooms c) ≢ 0)
         (up : (p : ℕ) → p < n → p ≢ r → tree.rank p < tree.rank c → Dominated rooms messages r p) where
       abbrev p : ℕ
-      p = (rooms c).lender
+      p = lender_of (rooms c)
 
-      lent : p ≢ nobody
+      lent : (rooms c).lender ≢ None
       lent e = some (sym (exact c low (root.tokenless c low other)) ∙ (facts c low).nobody-none e)
 
       p-low : p < n
@@ -71,8 +73,8 @@ module _ (n : ℕ) (rooms : ℕ → Room) (messages : List Wire) (limit : n ≤ 
       -- lender and borrower have the loan alike
       own : under (owned (rooms c)) (flushed rooms messages p c).mode ≡ true
       own =
-          ap (λ (e : Entry). under (owned (rooms c)) e.mode) (ledger p c p-low low (facts c low).lender-other)
-          ∙ own-owed c low other
+          ap (λ (e : Entry). under (owned (rooms c)) e.mode) (ledger p c p-low low (lends-other (rooms c) c lent (facts c low).lender-other))
+          ∙ own-owed c low other lent
 
       -- the lender has it as an entry
       by-entry : under (flushed rooms messages p c).mode (entry_at (rooms p) c).mode ≡ true → Dominated rooms messages r c

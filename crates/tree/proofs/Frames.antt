@@ -5,6 +5,7 @@ use Rattle.std.proofs.lemmas.Bool.{false≢true}
 use mathlib.Core.List.Memᴰ
 use Rattle.base.specs.Tests.{clash}
 use Rattle.base.specs.Lists.{Mem, remove}
+use Rattle.room.specs.Record.{lender_of}
 use Rattle.room.specs.declared.Room.{Room}
 use Rattle.table.specs.declared.Wire.{Wire}
 use Rattle.table.specs.declared.Message.{Message}
@@ -52,7 +53,7 @@ token-none a b m rest l = single-none (wire a b (msg.Token m rest l)) refl
 -- what is sent to an old lender is a REDUCE or nothing
 pub leaving-none : (me : ℕ) (r : Room) (a : ℕ) → NoGrant (leaving_sent me r a)
 leaving-none me r a =
-    leaving-either me r a NoGrant (λ w member. absurd (Memᴰ.not-nil member)) (λ q. reduce-none me r.lender r.link 0)
+    leaving-either me r a NoGrant (λ w member. absurd (Memᴰ.not-nil member)) (λ q. reduce-none me (lender_of r) r.link 0)
 
 -- with such a list behind it the GRANTs are those of before
 pub grants-front : (messages more : List Wire) → NoGrant more → GrantsIn (messages ++ more) messages

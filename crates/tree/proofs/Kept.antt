@@ -7,9 +7,9 @@ use Rattle.std.proofs.lemmas.Bool.{false≢true}
 use mathlib.Core.List.Memᴰ
 use Rattle.base.specs.Sums.{same?}
 use Rattle.base.specs.Lists.{Mem, remove, mem-remove, mem-snoc, mem-at}
+use Rattle.std.specs.Prelude.{Some, None}
 use Rattle.room.specs.declared.Room.{Room}
-use Rattle.room.specs.Limits.{nobody}
-use Rattle.room.specs.Record.{with_modes, with_debt}
+use Rattle.room.specs.Record.{with_modes, with_debt, lender_of}
 use Rattle.room.specs.Rules.{next_link, lent_to, left, remaining, passed_to, credited, tokened_by, reduced}
 use Rattle.table.specs.declared.Wire.{Wire}
 use Rattle.table.specs.declared.Message.TheVariants as msg
@@ -44,7 +44,7 @@ module _ (n : ℕ) (old new : ℕ → Room) (messages : List Wire) (me : ℕ) (l
   lender-same h c = ⊎_elim (λ e. rw e h) (λ e. ap (λ (r : Room). r.lender) (others c e)) (same? c me)
 
   -- the same, if that room can also have lost it
-  lender-left : ((new me).lender ≡ nobody) ⊎ ((new me).lender ≡ (old me).lender) → (c : ℕ) → (new c).lender ≢ nobody → (new c).lender ≡ (old c).lender
+  lender-left : ((new me).lender ≡ None) ⊎ ((new me).lender ≡ (old me).lender) → (c : ℕ) → (new c).lender ≢ None → (new c).lender ≡ (old c).lender
   lender-left (inl h) c some =
       ⊎_elim (λ e. absurd (some (rw e h))) (λ e. ap (λ (r : Room). r.lender) (others c e)) (same? c me)
   lender-left (inr h) c some = lender-same h c
@@ -58,18 +58,18 @@ module _ (n : ℕ) (old new : ℕ → Room) (messages : List Wire) (me : ℕ) (l
 
   -- SETTLE
   pub settle-tree : (m : ℕ) → new me ≡ credited (old me) m
-      → Tree n new (messages ++ (wire me (old me).lender (msg.Reduce (old me).link m) ∷ []))
+      → Tree n new (messages ++ (wire me (lender_of (old me)) (msg.Reduce (old me).link m) ∷ []))
   settle-tree m here =
-      tree-less n old new messages (messages ++ (wire me (old me).lender (msg.Reduce (old me).link m) ∷ [])) t
+      tree-less n old new messages (messages ++ (wire me (lender_of (old me)) (msg.Reduce (old me).link m) ∷ [])) t
       (λ c low some untold. (lender-left lender c some, untold-front c messages _ untold))
-      (grants-front messages _ (reduce-none me (old me).lender (old me).link m))
+      (grants-front messages _ (reduce-none me (lender_of (old me)) (old me).link m))
     where
-      lender : ((new me).lender ≡ nobody) ⊎ ((new me).lender ≡ (old me).lender)
+      lender : ((new me).lender ≡ None) ⊎ ((new me).lender ≡ (old me).lender)
       lender =
-          rw here (credited-either (old me) m (λ (r : Room). (r.lender ≡ nobody) ⊎ (r.lender ≡ (old me).lender)) (λ e. inl refl) (λ e. inr refl))
+          rw here (credited-either (old me) m (λ (r : Room). (r.lender ≡ None) ⊎ (r.lender ≡ (old me).lender)) (λ e. inl refl) (λ e. inr refl))
 
   -- LEND by the room with the token, which has no lender and gets no GRANT: it becomes the lowest
-  pub lend-root-tree : (y m : ℕ) → y ≢ me → new me ≡ lent_to (old me) y m → (old me).lender ≡ nobody
+  pub lend-root-tree : (y m : ℕ) → y ≢ me → new me ≡ lent_to (old me) y m → (old me).lender ≡ None
       → ((w : Wire) → Mem w messages → (j l : ℕ) → w.message ≡ msg.Grant j l → w.to ≢ me)
       → Tree n new (messages ++ (wire me y (msg.Grant m (next_link (old me).counter)) ∷ []))
   unfolding lent_to
@@ -87,8 +87,8 @@ module _ (n : ℕ) (old new : ℕ → Room) (messages : List Wire) (me : ℕ) (l
       by w j l is (inr e) = (λ q. other (sym (ap (λ (x : Wire). x.to) e) ∙ q), inl (ap (λ (x : Wire). x.«from») e))
 
   -- LEND by a room without the token to y, which owes nothing, lends nothing and gets no other GRANT: y is put above it
-  pub lend-tree : (y m : ℕ) → y ≢ me → new me ≡ lent_to (old me) y m → (old y).lender ≡ nobody
-      → ((c : ℕ) → c < n → c ≢ y → NoTokenTo c messages → (old c).lender ≢ y)
+  pub lend-tree : (y m : ℕ) → y ≢ me → new me ≡ lent_to (old me) y m → (old y).lender ≡ None
+      → ((c : ℕ) → c < n → c ≢ y → NoTokenTo c messages → (old c).lender ≢ Some y)
       → ((w : Wire) → Mem w messages → (j l : ℕ) → w.message ≡ msg.Grant j l → w.«from» ≢ y)
       → ((w : Wire) → Mem w messages → (j l : ℕ) → w.message ≡ msg.Grant j l → w.to ≢ y)
       → Tree n new (messages ++ (wire me y (msg.Grant m (next_link (old me).counter)) ∷ []))
@@ -111,7 +111,7 @@ module _ (n : ℕ) (old new : ℕ → Room) (messages : List Wire) (me : ℕ) (l
       by w j l is (inr e) = inl (ap (λ (x : Wire). x.«from») e, ap (λ (x : Wire). x.to) e)
 
   -- PASS to y, to which no GRANT is under way: y becomes the lowest, and is excused until the TOKEN has arrived
-  pub pass-tree : (y m : ℕ) → new me ≡ passed_to (old me) y → (old me).lender ≡ nobody
+  pub pass-tree : (y m : ℕ) → new me ≡ passed_to (old me) y → (old me).lender ≡ None
       → ((w : Wire) → Mem w messages → (j l : ℕ) → w.message ≡ msg.Grant j l → w.to ≢ y)
       → Tree n new (messages ++ (wire me y (msg.Token m (remaining (old me) y) (next_link (old me).counter)) ∷ []))
   unfolding left is_token
@@ -129,11 +129,11 @@ module _ (n : ℕ) (old new : ℕ → Room) (messages : List Wire) (me : ℕ) (l
       sent : Wire
       sent = wire me y (msg.Token m (remaining (old me) y) (next_link (old me).counter))
 
-      lender : ((new me).lender ≡ nobody) ⊎ ((new me).lender ≡ y)
-      lender = rw here (passed-either (old me) y (λ (r : Room). (r.lender ≡ nobody) ⊎ (r.lender ≡ y)) (λ e. inl free) (λ e. inr refl))
+      lender : ((new me).lender ≡ None) ⊎ ((new me).lender ≡ Some y)
+      lender = rw here (passed-either (old me) y (λ (r : Room). (r.lender ≡ None) ⊎ (r.lender ≡ Some y)) (λ e. inl free) (λ e. inr refl))
 
-      at : (c : ℕ) → (new c).lender ≢ nobody → NoTokenTo c messages → (c ≡ me) ⊎ (c ≢ me)
-          → ((new c).lender ≡ y) ⊎ (((new c).lender ≡ (old c).lender) × NoTokenTo c messages)
+      at : (c : ℕ) → (new c).lender ≢ None → NoTokenTo c messages → (c ≡ me) ⊎ (c ≢ me)
+          → ((new c).lender ≡ Some y) ⊎ (((new c).lender ≡ (old c).lender) × NoTokenTo c messages)
       at c some untold (inl e) =
           ⊎_elim (λ q. absurd (some (ap (λ (x : ℕ). (new x).lender) e ∙ q))) (λ q. inl (ap (λ (x : ℕ). (new x).lender) e ∙ q)) lender
       at c some untold (inr e) = inr (ap (λ (r : Room). r.lender) (others c e), untold)
@@ -142,7 +142,7 @@ module _ (n : ℕ) (old new : ℕ → Room) (messages : List Wire) (me : ℕ) (l
   module _ (k : ℕ) (a : ℕ) where
     -- GRANT: its sender is below its receiver
     pub grant-tree : (m l : ℕ) → k < length messages → get_or messages k no_wire ≡ wire a me (msg.Grant m l)
-        → new me ≡ with_debt (with_modes (old me) m 0) a m l → Tree n new (remove k messages ++ leaving_sent me (old me) a)
+        → new me ≡ with_debt (with_modes (old me) m 0) (Some a) m l → Tree n new (remove k messages ++ leaving_sent me (old me) a)
     unfolding is_token is_grant
     grant-tree m l inside is here =
         record {
@@ -158,9 +158,9 @@ module _ (n : ℕ) (old new : ℕ → Room) (messages : List Wire) (me : ℕ) (l
         nearer : t.rank a < t.rank me
         nearer = t.grant (wire a me (msg.Grant m l)) (rw (← is) (mem-at messages k no_wire inside)) refl
 
-        at : (c : ℕ) → c < n → (new c).lender ≢ nobody → NoTokenTo c messages → (c ≡ me) ⊎ (c ≢ me) → t.rank (new c).lender < t.rank c
+        at : (c : ℕ) → c < n → (new c).lender ≢ None → NoTokenTo c messages → (c ≡ me) ⊎ (c ≢ me) → t.rank (lender_of (new c)) < t.rank c
         at c low some untold (inl e) =
-            omega (arith, nearer, ap (λ (x : ℕ). t.rank (new x).lender) e, ap (λ (r : Room). t.rank r.lender) here, ap t.rank e)
+            omega (arith, nearer, ap (λ (x : ℕ). t.rank (lender_of (new x))) e, ap (λ (r : Room). t.rank (lender_of r)) here, ap t.rank e)
         at c low some untold (inr e) =
             let same : (new c).lender ≡ (old c).lender = ap (λ (r : Room). r.lender) (others c e) in
             rw same (t.lender c low (λ q. some (same ∙ q)) untold)
@@ -177,7 +177,7 @@ module _ (n : ℕ) (old new : ℕ → Room) (messages : List Wire) (me : ℕ) (l
         ))
         (λ w member q. mem-remove k messages (grants-front (remove k messages) _ (leaving-none me (old me) a) w member q))
       where
-        free : (new me).lender ≡ nobody
+        free : (new me).lender ≡ None
         free = ap (λ (r : Room). r.lender) here
 
     -- REDUCE

@@ -3,8 +3,10 @@ use Rattle.std.specs.Prelude.{◌≡◌, refl, ◌⊎◌, ◌≢◌, true, List,
 use Rattle.std.proofs.Common.{◌∙◌, ap, inl, inr, arith, eq-eqb, ne_eqb}
 use Rattle.base.specs.Lists.{Mem}
 use Rattle.base.specs.Ranks.{rerooted, rerooted-root, rerooted-falls}
+use Rattle.std.specs.Prelude.{Some, None}
+use Rattle.room.specs.Record.{lender_of}
 use Rattle.room.specs.declared.Room.{Room}
-use Rattle.room.specs.Limits.{nobody}
+use Rattle.room.proofs.Lenders.{lends-other}
 use Rattle.table.specs.declared.Wire.{Wire}
 use Rattle.tree.specs.Tree.{NoTokenTo, is_grant, Tree}
 use Rattle.tree.proofs.Frames.{GrantsIn}
@@ -33,7 +35,7 @@ module _ (rank : ℕ → ℕ) (y b : ℕ) where
 -- Ranks of rooms and messages that have changed
 module _ (n : ℕ) (old new : ℕ → Room) (messages after : List Wire) (t : Tree n old messages) where
   -- the same ranks: each lender that a room still has, and each GRANT, is of before
-  pub tree-less : ((c : ℕ) → c < n → (new c).lender ≢ nobody → NoTokenTo c after → ((new c).lender ≡ (old c).lender) × NoTokenTo c messages)
+  pub tree-less : ((c : ℕ) → c < n → (new c).lender ≢ None → NoTokenTo c after → ((new c).lender ≡ (old c).lender) × NoTokenTo c messages)
       → GrantsIn after messages → Tree n new after
   tree-less lenders grants =
       record {
@@ -47,8 +49,8 @@ module _ (n : ℕ) (old new : ℕ → Room) (messages after : List Wire) (t : Tr
 
   -- r as the lowest: it has no lender and gets no GRANT, and what is new is lent by it
   pub tree-rerooted : (r : ℕ)
-      → ((c : ℕ) → c < n → (new c).lender ≢ nobody → NoTokenTo c after
-      → (c ≢ r) × (((new c).lender ≡ r) ⊎ (((new c).lender ≡ (old c).lender) × NoTokenTo c messages)))
+      → ((c : ℕ) → c < n → (new c).lender ≢ None → NoTokenTo c after
+      → (c ≢ r) × (((new c).lender ≡ Some r) ⊎ (((new c).lender ≡ (old c).lender) × NoTokenTo c messages)))
       → ((w : Wire) → Mem w after → is_grant w.message ≡ true → (w.to ≢ r) × ((w.«from» ≡ r) ⊎ Mem w messages))
       → Tree n new after
   tree-rerooted r lenders grants =
@@ -58,12 +60,12 @@ module _ (n : ℕ) (old new : ℕ → Room) (messages after : List Wire) (t : Tr
         grant = λ w member is. by-grant w is (grants w member is).0 (grants w member is).1;
       }
     where
-      by-lender : (c : ℕ) → c < n → (new c).lender ≢ nobody → c ≢ r
-          → ((new c).lender ≡ r) ⊎ (((new c).lender ≡ (old c).lender) × NoTokenTo c messages)
-          → rerooted r t.rank (new c).lender < rerooted r t.rank c
+      by-lender : (c : ℕ) → c < n → (new c).lender ≢ None → c ≢ r
+          → ((new c).lender ≡ Some r) ⊎ (((new c).lender ≡ (old c).lender) × NoTokenTo c messages)
+          → rerooted r t.rank (lender_of (new c)) < rerooted r t.rank c
       by-lender c low some ne (inl e) = rw e (rerooted-root r t.rank c ne)
       by-lender c low some ne (inr (e, untold)) =
-          rw e (rerooted-falls r t.rank (old c).lender c ne (t.lender c low (λ k. some (e ∙ k)) untold))
+          rw e (rerooted-falls r t.rank (lender_of (old c)) c ne (t.lender c low (λ k. some (e ∙ k)) untold))
 
       by-grant : (w : Wire) → is_grant w.message ≡ true → w.to ≢ r → (w.«from» ≡ r) ⊎ Mem w messages
           → rerooted r t.rank w.«from» < rerooted r t.rank w.to
@@ -72,8 +74,8 @@ module _ (n : ℕ) (old new : ℕ → Room) (messages after : List Wire) (t : Tr
 
   -- y above b: y has no lender, lends nothing, and gets no GRANT but of b
   pub tree-attached : (y b : ℕ) → b ≢ y
-      → ((c : ℕ) → c < n → (new c).lender ≢ nobody → NoTokenTo c after
-      → (c ≢ y) × ((new c).lender ≢ y) × ((new c).lender ≡ (old c).lender) × NoTokenTo c messages)
+      → ((c : ℕ) → c < n → (new c).lender ≢ None → NoTokenTo c after
+      → (c ≢ y) × ((new c).lender ≢ Some y) × ((new c).lender ≡ (old c).lender) × NoTokenTo c messages)
       → ((w : Wire) → Mem w after → is_grant w.message ≡ true
       → ((w.«from» ≡ b) × (w.to ≡ y)) ⊎ ((w.«from» ≢ y) × (w.to ≢ y) × Mem w messages))
       → Tree n new after
@@ -83,7 +85,7 @@ module _ (n : ℕ) (old new : ℕ → Room) (messages after : List Wire) (t : Tr
         lender =
             λ c low some untold.
             let k = lenders c low some untold in
-            attached-falls t.rank y b (new c).lender c k.1 k.0 (rw k.2 (t.lender c low (λ e. some (k.2 ∙ e)) k.3));
+            attached-falls t.rank y b (lender_of (new c)) c (lends-other (new c) y some k.1) k.0 (rw k.2 (t.lender c low (λ e. some (k.2 ∙ e)) k.3));
         grant = λ w member is. by-grant w is (grants w member is);
       }
     where

@@ -45,6 +45,14 @@ fn enter(room: &mut Room, c: &Command) {
     }
 }
 
+// The lender that a value names: a byte of 255 names nobody.
+fn lender(value: usize) -> Option<u8> {
+    match byte(value) {
+        u8::MAX => None,
+        l => Some(l),
+    }
+}
+
 // Another field of a record, or another entry. A word that is not understood is told: what is printed is then not what is expected.
 fn change_room(rt: &impl Print, room: &mut Room, c: &Command) {
     let [_, value, ..] = c.values;
@@ -53,7 +61,7 @@ fn change_room(rt: &impl Print, room: &mut Room, c: &Command) {
         Some(Word::Wanted) => room.wanted = byte(value),
         Some(Word::Token) => room.token = value != 0,
         Some(Word::Toward) => room.toward = byte(value),
-        Some(Word::Lender) => room.lender = byte(value),
+        Some(Word::Lender) => room.lender = lender(value),
         Some(Word::Credit) => room.credit = byte(value),
         Some(Word::Link) => room.link = link(value),
         Some(Word::Counter) => room.counter = link(value),
