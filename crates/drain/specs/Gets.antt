@@ -10,14 +10,13 @@ use Rattle.std.proofs.lemmas.Bool.{eqb-false}
 use Rattle.base.specs.Choice.{by-test}
 use Rattle.base.specs.Tests.{and_left, and_right}
 use Rattle.base.specs.Sums.{one}
-use Rattle.std.specs.Prelude.{Some}
 use Rattle.modes.specs.Codes.{U, W}
 use Rattle.modes.specs.Modes.{agrees, can_lend}
 use Rattle.std.specs.Prelude.{Option}
 use Rattle.room.specs.declared.Room.{Room}
 use Rattle.room.specs.declared.Reduce.{Reduce}
 use Rattle.room.specs.declared.Changed.{Changed}
-use Rattle.room.specs.Record.{with_modes, with_debt}
+use Rattle.room.specs.Record.{with_modes, with_debt, lender_in}
 use Rattle.room.specs.Owned.{owned, has_no_entries}
 use Rattle.room.specs.Rules.{lent, lent_to, left, passed, passed_to, credited, leaving, granted, tokened, tokened_by, reduced}
 use Rattle.table.specs.declared.Wire.{Wire}
@@ -152,7 +151,7 @@ module _ (n : ℕ) (rooms : ℕ → Room) (kept : List Wire) where
 
       grant-got : (l : ℕ) → Got (change w (granted w.room a m l))
       unfolding granted
-      grant-got l = sent-got (with_room w (with_debt (with_modes w.room m 0) (Some a) m l)) (leaving w.room a) (alike (rooms w.me) (with_modes w.room m 0) _ refl refl given)
+      grant-got l = sent-got (with_room w (with_debt (with_modes w.room m 0) (lender_in a) m l)) (leaving w.room a) (alike (rooms w.me) (with_modes w.room m 0) _ refl refl given)
 
       token-got : (rest l : ℕ) → Whole n rooms kept (change w (tokened w.room w.me a m rest l))
           → Got (serve (change w (tokened w.room w.me a m rest l)))

@@ -11,9 +11,10 @@ use Rattle.room.specs.Rules.{reduce_to}
 use Rattle.room.specs.declared.Room.{Room}
 use Rattle.room.specs.declared.Reduce.{Reduce}
 use Rattle.room.specs.declared.Changed.{Changed}
-use Rattle.room.specs.Record.{entry_of, entry_at, with_debt, set_entry, lender_of, is_lender}
+use Rattle.room.specs.Limits.{room_limit}
+use Rattle.room.specs.Record.{entry_of, entry_at, with_debt, set_entry, lender_of, lender_in, is_lender}
 use Rattle.room.specs.Owned.{owned}
-use Rattle.room.proofs.Lenders.{is-none, none-is, lender-is}
+use Rattle.room.proofs.Lenders.{is-none, none-is, lender-is, lender-low}
 use Rattle.room.specs.Rules.{next_link, left, remaining, passed_to, credited, settled, leaving, lifted, reduced}
 use Rattle.table.specs.declared.Wire.{Wire}
 use Rattle.table.specs.declared.Message.TheVariants as msg
@@ -36,11 +37,16 @@ leaving-either me r a P p q = leaving-send r a (λ (s : Option Reduce). P (sent_
 
 -- a pass: something remains or not
 pub passed-either : (r : Room) (y : ℕ) (P : Room → Type 0) → (remaining r y ≡ 0 → P (left r y))
-    → (remaining r y ≢ 0 → P (with_debt (left r y) (Some y) (remaining r y) (next_link r.counter))) → P (passed_to r y)
+    → (remaining r y ≢ 0 → P (with_debt (left r y) (lender_in y) (remaining r y) (next_link r.counter))) → P (passed_to r y)
 unfolding passed_to
 passed-either r y P p q =
-    by-test P (eqb (remaining r y) 0) (left r y) (with_debt (left r y) (Some y) (remaining r y) (next_link r.counter))
+    by-test P (eqb (remaining r y) 0) (left r y) (with_debt (left r y) (lender_in y) (remaining r y) (next_link r.counter))
     (λ e. p (eqb-true _ _ e)) (λ e. q (eqb-false _ _ e))
+
+-- a pass to a number that a room can have: that room is the lender
+pub passed-low : (r : Room) (y : ℕ) → y < room_limit → (P : Room → Type 0) → (remaining r y ≡ 0 → P (left r y))
+    → (remaining r y ≢ 0 → P (with_debt (left r y) (Some y) (remaining r y) (next_link r.counter))) → P (passed_to r y)
+passed-low r y low P p q = passed-either r y P p (λ e. rw (lender-low y low) (q e))
 
 -- a settling: to none, or to a weaker mode
 pub credited-either : (r : Room) (m : ℕ) (P : Room → Type 0) → (m ≡ 0 → P (with_debt r None m 0))

@@ -1,20 +1,22 @@
 -- DELIVER keeps a moment whole: the message is off its wire, with what it names and the token that it carries in hand.
 use Rattle.std.specs.Prelude.{◌≡◌, refl, ◌≢◌, Bool, true, false, ◌&&◌, List, ◌++◌, ℕ, ◌≤◌, ◌<◌, ltb, eqb, length, set}
 use Rattle.std.proofs.Common.{sym, ◌∙◌, ap, arith, length-set, eq-eqb, ne_eqb}
+use Rattle.std.proofs.Math.Path.{subst⁻¹}
 use Rattle.std.proofs.Math.Bool.{not}
 use Rattle.std.proofs.lemmas.Bool.{eqb-false, not-true}
 use Rattle.base.specs.Choice.{by-test}
 use Rattle.base.specs.Tests.{and_left, and_right, clash}
 use Rattle.base.specs.Sums.{one}
-use Rattle.std.specs.Prelude.{Some, None}
+use Rattle.std.specs.Prelude.{Option, None}
 use Rattle.modes.specs.Codes.{W}
 use Rattle.modes.specs.Modes.{can_lend}
 use Rattle.modes.proofs.Laws.{small-code, small-weak}
 use Rattle.room.specs.declared.Room.{Room}
 use Rattle.room.specs.Limits.{room_limit}
-use Rattle.room.specs.Record.{entry_of, with_modes, with_token, with_debt, set_entry}
+use Rattle.room.specs.Record.{entry_of, lender_in, with_modes, with_token, with_debt, set_entry}
 use Rattle.room.specs.Owned.{owned}
 use Rattle.room.specs.Rules.{lent, lent_to, leaving, granted, lifted, tokened_by, tokened, reduced}
+use Rattle.room.proofs.Lenders.{lender-within}
 use Rattle.table.specs.declared.Wire.{Wire}
 use Rattle.table.specs.declared.Message.{Message}
 use Rattle.table.specs.declared.Message.TheVariants as msg
@@ -93,12 +95,7 @@ module _ (n : ℕ) (rooms : ℕ → Room) (kept : List Wire) (w : Work) (from : 
     unfolding receive granted
     grant-kept m l grant a =
         put-leaving n rooms kept (with_room w lending) w.room from facts.lender-low facts.lender-other
-        (set-unnamed n rooms kept w (only w.me) 0 a lending
-        (owing-facts n w.me (with_modes w.room m 0)
-        (modes-facts n w.me w.room facts m 0 code (omega arith) (λ e. absurd ((small-weak m grant.weak).0 e))
-        (λ e. absurd ((small-weak m grant.weak).1 e)) (λ p z. absurd (z refl)))
-        from m l a.small from_low apart grant.some code (ap (λ (r : Room). r.token) (sym own) ∙ grant.without))
-        a.long (unnamed m 0 grant.some grant.waits a) empty 0 ended
+        (set-unnamed n rooms kept w (only w.me) 0 a lending lending-facts a.long (unnamed m 0 grant.some grant.waits a) empty 0 ended
         (sym (ap (λ (d : ℕ). one (ltb 0 d)) (due-none lending refl))) refl)
       where
         facts : RoomFacts n w.me w.room
@@ -108,7 +105,15 @@ module _ (n : ℕ) (rooms : ℕ → Room) (kept : List Wire) (w : Work) (from : 
         code = omega (arith, small-code m grant.weak)
 
         lending : Room
-        lending = with_debt (with_modes w.room m 0) (Some from) m l
+        lending = with_debt (with_modes w.room m 0) (lender_in from) m l
+
+        lending-facts : RoomFacts n w.me lending
+        lending-facts =
+            subst⁻¹ (λ (o : Option ℕ). RoomFacts n w.me (with_debt (with_modes w.room m 0) o m l)) (lender-within from n from_low a.small)
+            (owing-facts n w.me (with_modes w.room m 0)
+            (modes-facts n w.me w.room facts m 0 code (omega arith) (λ e. absurd ((small-weak m grant.weak).0 e))
+            (λ e. absurd ((small-weak m grant.weak).1 e)) (λ p z. absurd (z refl)))
+            from m l a.small from_low apart grant.some code (ap (λ (r : Room). r.token) (sym own) ∙ grant.without))
 
     -- while the token is in hand no room has it
     tokenless : At n rooms kept w (only w.me) 1 → w.room.token ≡ false

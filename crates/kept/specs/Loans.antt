@@ -18,7 +18,7 @@ use Rattle.rules.specs.Work.{Work, with_room, with_worn}
 use Rattle.rules.specs.Rules.{lend, pass}
 use Rattle.facts.specs.Rooms.{RoomFacts, owned-code}
 use Rattle.facts.specs.Due.{due-same}
-use Rattle.facts.specs.Cases.{passed-either}
+use Rattle.facts.specs.Cases.{passed-low}
 use Rattle.kept.specs.Changed.{changed, changed-elsewhere}
 use Rattle.kept.specs.Records.{counter-facts, lost-facts, owing-facts, entry-set-facts}
 use Rattle.kept.specs.Acts.{At, Whole, now, only, own_room, set-alike, set-passing}
@@ -97,7 +97,7 @@ module _ (n : ℕ) (rooms : ℕ → Room) (kept : List Wire) (w : Work) (y m : �
       -- "if what remains isn't none, lender w, credit what remains, that link number"
       given : At n rooms kept (with_room w after) (only y) 1
       given =
-          passed-either w.room y (λ (r : Room). At n rooms kept (with_room w r) (only y) 1)
+          passed-low w.room y (omega (arith, a.small)) (λ (r : Room). At n rooms kept (with_room w r) (only y) 1)
           (λ e. set-passing n rooms kept w (only y) 0 a (left w.room y) gone long (due-same w.room _ refl refl) with refl)
           (λ e. set-passing n rooms kept w (only y) 0 a owing (owing-now e) long (due-same w.room _ refl refl) with refl)
         where

@@ -3,7 +3,7 @@ use Rattle.std.specs.Prelude.{◌≡◌, refl, ◌≢◌, ◌⊎◌, Bool, true,
 use Rattle.std.proofs.Common.{sym, ◌∙◌, ap, arith}
 use Rattle.std.proofs.Math.Logic.{inl, inr, ⊎_elim}
 use Prim.Native.Nat.{ℕ, ◌≤◌, ◌<◌}
-use Rattle.std.proofs.lemmas.Option.{none-some, same_Some}
+use Rattle.std.proofs.lemmas.Option.{none-some}
 use Rattle.base.specs.Sums.{same?}
 use Rattle.base.specs.Lists.{Mem, mem-snoc}
 use Rattle.std.specs.Prelude.{Some, None}
@@ -11,6 +11,7 @@ use Rattle.room.specs.declared.Room.{Room}
 use Rattle.room.specs.Limits.{room_limit}
 use Rattle.room.specs.Record.{with_modes}
 use Rattle.room.specs.Rules.{next_link, lent_to, left, remaining, passed_to}
+use Rattle.room.proofs.Lenders.{lender-named}
 use Rattle.table.specs.declared.Wire.{Wire}
 use Rattle.table.specs.declared.Message.TheVariants as msg
 use Rattle.table.specs.Oldest.{between}
@@ -168,5 +169,5 @@ module _ (n : ℕ) (old new : ℕ → Room) (messages : List Wire) (me : ℕ) (o
       own p lp e =
           passed-either (old me) y (λ (r : Room). new me ≡ r → (new me).link ≤ reach new (messages ++ (token ∷ [])) p me)
           (λ z. λ q. absurd (none-some p (sym (ap (λ (r : Room). r.lender) q ∙ free) ∙ e)))
-          (λ z. λ q. rw (same_Some p y (sym e ∙ ap (λ (r : Room). r.lender) q), ap (λ (r : Room). r.link) q) reaches)
+          (λ z. λ q. rw (lender-named y p (sym (ap (λ (r : Room). r.lender) q) ∙ e), ap (λ (r : Room). r.link) q) reaches)
           here

@@ -1,7 +1,7 @@
 -- LEDGER is kept where the token goes: the receiver's entry is cleared, and what remains is owed to the receiver.
 use Rattle.std.specs.Prelude.{◌≡◌, ◌≢◌, ◌⊎◌, false, List, [], ◌∷◌, ◌++◌, ℕ, ◌≤◌, ◌<◌, length}
 use Rattle.std.proofs.Math.Path.{refl, sym, ap}
-use Rattle.std.proofs.Common.{◌∙◌, inl, inr, ⊎_elim, true≢false, eq-eqb, ne_eqb}
+use Rattle.std.proofs.Common.{◌∙◌, inl, inr, ⊎_elim, true≢false, eq-eqb, ne_eqb, arith}
 use Rattle.std.proofs.Math.Seq.{get_or-set_same, get_or-set_other}
 use Rattle.std.proofs.lemmas.Option.{same_Some}
 use Rattle.base.specs.Choice.{split}
@@ -21,7 +21,7 @@ use Rattle.table.specs.declared.Message.TheVariants as msg
 use Rattle.table.specs.Oldest.{between}
 use Rattle.table.specs.Formed.{is_token}
 use Rattle.facts.specs.Wires.{wire}
-use Rattle.facts.specs.Cases.{passed-either}
+use Rattle.facts.specs.Cases.{passed-either, passed-low}
 use Rattle.ledger.specs.Loans.{flush, owe, arriving, debt, flushed, owed, Ledger}
 use Rattle.ledger.proofs.Arrivals.{arriving-other, arriving-this, more}
 use Rattle.ledger.proofs.Frames.{other-sender, other-receiver, same-wire, receiver-is}
@@ -73,7 +73,7 @@ module _ (n : ℕ) (old new : ℕ → Room) (messages : List Wire) (me : ℕ) (o
   unfolding entry_of left
   debt-new =
       rw here
-      (passed-either (old me) y (λ (r : Room). debt r y ≡ entry_of rest link)
+      (passed-low (old me) y (omega arith) (λ (r : Room). debt r y ≡ entry_of rest link)
       (λ z. debt-none (left (old me) y) y (nobody-lends free) ∙ sym (simp (eq-eqb rest 0 z)))
       (λ z. debt-here owing y refl ∙ sym (simp (ne_eqb rest 0 z))))
 
@@ -84,7 +84,7 @@ module _ (n : ℕ) (old new : ℕ → Room) (messages : List Wire) (me : ℕ) (o
   unfolding left
   debt-other p l e =
       rw here
-      (passed-either (old me) y (λ (r : Room). debt r p ≡ no_entry) (λ e. debt-none (left (old me) y) p (nobody-lends free))
+      (passed-low (old me) y (omega arith) (λ (r : Room). debt r p ≡ no_entry) (λ e. debt-none (left (old me) y) p (nobody-lends free))
       (λ z. debt-none owing p (λ k. e (sym (same_Some y p k)))))
 
   -- what y owed has ended

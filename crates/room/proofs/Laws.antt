@@ -6,14 +6,14 @@ use native.Mathlib.Numerals.{add-one}
 use lib.ListN.{length}
 use lib.Seq.{set_out}
 use borrow.Author.Tests.{lt-ltb, le-ltb, eq-eqb, ne_eqb}
-use Rattle.std.proofs.Common.{Option, Some, None, max, arith}
+use Rattle.std.proofs.Common.{Option, None, max, arith}
 use Rattle.base.specs.Below.{all_below}
 use lib.Dec.{eqb, leb}
 use Rattle.room.specs.declared.Room.{Room}
 use Rattle.room.specs.declared.Entry.{Entry}
 use Rattle.room.specs.declared.Reduce.{Reduce}
 use Rattle.room.specs.Limits.{last_link, room_limit}
-use Rattle.room.specs.Record.{no_entry, entry_of, entry_at, with_modes, with_token, with_debt, with_counter, set_entry}
+use Rattle.room.specs.Record.{no_entry, entry_of, entry_at, lender_in, with_modes, with_token, with_debt, with_counter, set_entry}
 use Rattle.room.specs.Owned.{larger, strongest, owned, has_no_entries}
 use Rattle.room.specs.Rules.{next_link, is_worn, lent_to, lent, left, remaining, passed_to, passed, leaving, lifted, tokened_by, tokened}
 
@@ -47,9 +47,10 @@ module _ (r : Room) (y m : ℕ) where
 
 -- what a pass leaves
 module _ (r : Room) (w l : ℕ) (p : l ≡ next_link r.counter) (s : Room) (u : s ≡ set_entry r w no_entry) (o : ℕ) (q : o ≡ owned s) where
-  pub passed_owing : (o ≡ 0 → ⊥) → record { room = with_debt (with_token (with_counter s l) false w) (Some w) o l; rest = o; link = l; worn = leb last_link r.counter } ≡ passed r w
+  pub passed_owing : (o ≡ 0 → ⊥) → (b : Option ℕ) → b ≡ lender_in w
+      → record { room = with_debt (with_token (with_counter s l) false w) b o l; rest = o; link = l; worn = leb last_link r.counter } ≡ passed r w
   unfolding passed passed_to remaining left is_worn
-  passed_owing h = rw (q, u, p) (simp (ne_eqb _ _ (rw (q, u) at h)))
+  passed_owing h b v = rw (q, u, p, v) (simp (ne_eqb _ _ (rw (q, u) at h)))
 
   pub passed_free : o ≡ 0 → record { room = with_token (with_counter s l) false w; rest = o; link = l; worn = leb last_link r.counter } ≡ passed r w
   unfolding passed passed_to remaining left is_worn

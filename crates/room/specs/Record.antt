@@ -3,7 +3,7 @@ use Rattle.std.specs.Prelude.{ℕ, Bool, false, Option, Some, None, unwrap_or, [
 use Rattle.modes.specs.Codes.{none}
 use Rattle.room.specs.declared.Room.{Room}
 use Rattle.room.specs.declared.Entry.{Entry}
-use Rattle.room.specs.Limits.{room_limit}
+use Rattle.room.specs.Limits.{room_limit, nobody}
 
 -- "mode none meaning no entry"; its link number is zero
 abbrev pub no_entry : Entry
@@ -24,7 +24,11 @@ is_lender (Some l) c = eqb l c
 
 -- the lender's number; where there is none, one that no room has
 abbrev pub lender_of : Room → ℕ
-lender_of r = unwrap_or r.lender 255
+lender_of r = unwrap_or r.lender nobody
+
+-- the lender that a number names: none, where it is the number of nobody
+unfoldable pub lender_in : ℕ → Option ℕ
+lender_in a = if eqb a nobody then None else Some a
 
 -- all none or zero
 abbrev pub blank_room : Room

@@ -8,7 +8,7 @@ use Rattle.room.specs.declared.Lent.{Lent}
 use Rattle.room.specs.declared.Passed.{Passed}
 use Rattle.room.specs.declared.Reduce.{Reduce}
 use Rattle.room.specs.Limits.{last_link}
-use Rattle.room.specs.Record.{no_entry, entry_of, entry_at, is_lender, lender_of, with_modes, with_token, with_debt, with_counter, set_entry}
+use Rattle.room.specs.Record.{no_entry, entry_of, entry_at, is_lender, lender_of, lender_in, with_modes, with_token, with_debt, with_counter, set_entry}
 use Rattle.room.specs.Owned.{owned}
 
 -- "the counter goes up by 1 and is the new link number"; at the last one it stays, and the step is WORN
@@ -38,7 +38,7 @@ remaining r w = owned (set_entry r w no_entry)
 unfoldable pub passed_to : Room → ℕ → Room
 passed_to r w =
     if eqb (remaining r w) none then left r w
-    else with_debt (left r w) (Some w) (remaining r w) (next_link r.counter)
+    else with_debt (left r w) (lender_in w) (remaining r w) (next_link r.counter)
 
 unfoldable pub passed : Room → ℕ → Passed
 passed r w =
@@ -67,7 +67,7 @@ leaving r a =
 
 -- "GRANT: .. Then lender a, the new link number, credit and held the mode, wanted none."
 unfoldable pub granted : Room → ℕ → ℕ → ℕ → Changed
-granted r a m l = record { room = with_debt (with_modes r m none) (Some a) m l; send = leaving r a }
+granted r a m l = record { room = with_debt (with_modes r m none) (lender_in a) m l; send = leaving r a }
 
 -- "its counter is the larger of its own and the link number"
 unfoldable pub lifted : ℕ → ℕ → ℕ

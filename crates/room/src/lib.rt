@@ -7,9 +7,9 @@ ghost use Rattle.room.specs.Record.{entry_at, set_entry, blank_room};
 ghost use Rattle.room.specs.Owned.{owned, has_no_entries};
 ghost use Rattle.room.specs.Rules.{lent, passed, reduce_to, settled, granted, tokened, reduced, leaving};
 
-mod parts; // parts.rt: an entry, the stronger mode, the next link number
+mod parts; // parts.rt: an entry, a lender, the stronger mode, the next link number
 
-use parts::{entry_of, larger, next_link};
+use parts::{entry_of, larger, lender_in, next_link};
 
 // The rooms that one table can have, as n has the number.
 pub const MOST_ROOMS: u8 = 16;
@@ -172,7 +172,7 @@ impl Room {
         match rest {
             modes::NONE => {}
             modes::IR..=255 => {
-                room.lender = Some(w);
+                room.lender = lender_in(w);
                 room.credit = rest;
                 room.link = link;
             }
@@ -240,7 +240,7 @@ impl Room {
     {
         let send = self.leave(a);
         let mut room = self;
-        room.lender = Some(a);
+        room.lender = lender_in(a);
         room.link = link;
         room.credit = mode;
         room.held = mode;

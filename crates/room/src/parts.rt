@@ -1,6 +1,6 @@
-// What the methods of a record are made of: an entry, the stronger of two modes, the next link number. Private: only they use it.
+// What the methods of a record are made of: an entry, a lender, the stronger of two modes, the next link number. Private: only they use it.
 ghost use Rattle.std.specs.Prelude.{◌≡◌};
-ghost use Rattle.room.specs.Record.{entry_of};
+ghost use Rattle.room.specs.Record.{entry_of, lender_in};
 ghost use Rattle.room.specs.Owned as owning;
 ghost use Rattle.room.specs.Rules.{next_link};
 
@@ -14,6 +14,17 @@ pub fn entry_of(mode: u8, link: u32) -> Entry
     match mode {
         modes::NONE => NO_ENTRY,
         modes::IR..=255 => Entry { mode, link },
+    }
+}
+
+// The lender that a number names. No room has number 255: it names nobody.
+#[tactic(auto, unfolding(crate::specs::Record::lender_in))]
+pub fn lender_in(a: u8) -> Option<u8>
+    ensures { result ≡ lender_in a }
+{
+    match a {
+        u8::MAX => None,
+        _ => Some(a),
     }
 }
 

@@ -5,13 +5,14 @@ use Rattle.std.proofs.Common.{sym, ◌∙◌, append-nil, arith, eq-eqb}
 use Rattle.base.specs.Choice.{by-test}
 use Rattle.base.specs.Sums.{one}
 use Rattle.base.specs.Lists.{Mem, remove, mem-at}
-use Rattle.std.specs.Prelude.{Some}
+use Rattle.std.specs.Prelude.{Option, Some}
 use Rattle.modes.specs.Codes.{IR}
 use Rattle.modes.specs.Under.{under}
 use Rattle.room.specs.declared.Room.{Room}
-use Rattle.room.specs.Record.{with_modes, with_debt, set_entry, entry_of}
+use Rattle.room.specs.Record.{with_modes, with_debt, set_entry, entry_of, lender_in}
 use Rattle.room.specs.Owned.{owned}
 use Rattle.room.specs.Rules.{leaving, granted, tokened, tokened_by, reduced}
+use Rattle.room.proofs.Lenders.{lender-within}
 use Rattle.table.specs.declared.Wire.{Wire}
 use Rattle.table.specs.declared.Queued.{Queued}
 use Rattle.table.specs.declared.Message.{Message}
@@ -109,13 +110,15 @@ module _ (n : ℕ) (rooms : ℕ → Room) (messages : List Wire) (me : ℕ) (roo
       })
     where
       lending : Room
-      lending = with_debt (with_modes room m 0) (Some a) m l
+      lending = with_debt (with_modes room m 0) (lender_in a) m l
 
       low : me < n
       low = taken.low
 
       now-lent : new lending me ≡ with_debt (with_modes (old me) m 0) (Some a) m l
-      now-lent = here lending ∙ sym (ap (λ (r : Room). with_debt (with_modes r m 0) (Some a) m l) at-me)
+      now-lent =
+          here lending ∙ ap (λ (o : Option ℕ). with_debt (with_modes room m 0) o m l) (lender-within a n from_low taken.small)
+          ∙ sym (ap (λ (r : Room). with_debt (with_modes r m 0) (Some a) m l) at-me)
 
       grant : Mem (wire a me (msg.Grant m l)) messages
       grant = rw (← at.there) (mem-at messages k no_wire at.low)

@@ -4,7 +4,7 @@ use Rattle.base.specs.Lists.{remove}
 use Rattle.base.specs.Arrays.{padded}
 use Rattle.modes.specs.Codes.{none, IR, R, W}
 use Rattle.modes.specs.Modes.{agrees, is_stronger, can_lend}
-use Rattle.room.specs.Record.{entry_of, is_lender}
+use Rattle.room.specs.Record.{entry_of, is_lender, lender_in}
 use Rattle.room.specs.Owned.{larger, strongest, owned, has_no_entries}
 use Rattle.room.specs.Rules.{next_link, is_worn, lent_to, lent, credited, settled, leaving, granted, lifted, tokened_by, tokened}
 use Rattle.table.specs.declared.Table.{Table}
@@ -46,6 +46,6 @@ unfolding spring held_or_owned entry_cleared counter_lifted is_still
     runs_by fresh_table step_by made_by delivered_by outcome after refusal_as first is_found any_worn oldest_of oldest_in
     reduced_by tokened_as passed_as pass_by serve_queue_by serve_by settle_or_serve_by ask_by hand_back_by take_request_by receive_by
     upgrade upgraded upgrade_waits settle lend hold want is_empty send join send_out
-    next_link is_worn lent_to lent credited settled leaving is_lender granted lifted tokened_by tokened entry_of larger strongest owned has_no_entries
+    next_link is_worn lent_to lent credited settled leaving is_lender lender_in granted lifted tokened_by tokened entry_of larger strongest owned has_no_entries
     agrees is_stronger can_lend remove padded
 ends = record { by-room = refl; by-held = refl; left-still = refl; left-waits = refl; cleared = refl; unlifted = refl }

@@ -8,7 +8,7 @@ use Rattle.base.specs.Arrays.{padded}
 use Rattle.base.specs.Tests.{clash}
 use Rattle.modes.specs.Codes.{R, W}
 use Rattle.modes.specs.Modes.{agrees, is_stronger, can_lend}
-use Rattle.room.specs.Record.{entry_of, is_lender}
+use Rattle.room.specs.Record.{entry_of, is_lender, lender_in}
 use Rattle.room.specs.Owned.{larger, strongest, owned}
 use Rattle.room.specs.Rules.{next_link, is_worn, lent_to, lent, settled, leaving, granted}
 use Rattle.std.specs.Prelude.{Some}
@@ -56,7 +56,7 @@ record Owes : Type 0 where
 owes : Owes
 unfolding crossing crossed unanswered runs_by step_by made_by delivered_by outcome after refusal_as first is_found any_worn oldest_of oldest_in
     reduced_by serve_queue_by serve_by settle_or_serve_by ask_by take_request_by receive_by upgraded upgrade_waits settle lend hold is_empty send send_out
-    next_link is_worn lent_to lent settled leaving is_lender granted entry_of larger strongest owned agrees is_stronger can_lend remove padded
+    next_link is_worn lent_to lent settled leaving is_lender lender_in granted entry_of larger strongest owned agrees is_stronger can_lend remove padded
 owes = record { debt = refl; grant = refl; held = refl }
 
 -- By the rules every event leads on to a table with the invariant.

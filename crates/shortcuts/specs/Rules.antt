@@ -1,11 +1,10 @@
 -- The rules with the five places open: only what the choices change is written anew.
 use Rattle.std.specs.Prelude.{ℕ, Bool, false, not, ◌&&◌, List, [], ◌∷◌, eqb, if◌then◌else◌}
 use Rattle.modes.specs.Modes.{agrees, is_stronger, can_lend}
-use Rattle.std.specs.Prelude.{Some}
 use Rattle.room.specs.declared.Room.{Room}
 use Rattle.room.specs.declared.Changed.{Changed}
 use Rattle.room.specs.declared.Passed.{Passed}
-use Rattle.room.specs.Record.{entry_of, entry_at, with_token, with_debt, with_counter, set_entry}
+use Rattle.room.specs.Record.{entry_of, entry_at, lender_in, with_token, with_debt, with_counter, set_entry}
 use Rattle.room.specs.Owned.{owned}
 use Rattle.room.specs.Rules.{next_link, is_worn, granted, tokened}
 use Rattle.table.specs.declared.Queued.{Queued}
@@ -35,7 +34,7 @@ module _ (c : Choices) where
       let k = next_link r.counter in
       let rest = owned (c.leaves r w) in
       let gone = with_token (with_counter (c.leaves r w) k) false w in
-      record { room = if eqb rest 0 then gone else with_debt gone (Some w) rest k; rest = rest; link = k; worn = is_worn r.counter }
+      record { room = if eqb rest 0 then gone else with_debt gone (lender_in w) rest k; rest = rest; link = k; worn = is_worn r.counter }
 
   unfoldable pub pass_by : Work → ℕ → ℕ → Work
   pass_by w y m =

@@ -6,7 +6,7 @@ use Rattle.base.specs.Lists.{remove}
 use Rattle.base.specs.Arrays.{padded}
 use Rattle.modes.specs.Codes.{R, W}
 use Rattle.modes.specs.Modes.{agrees, is_stronger, can_lend}
-use Rattle.room.specs.Record.{entry_of}
+use Rattle.room.specs.Record.{entry_of, lender_in}
 use Rattle.room.specs.Owned.{larger, strongest, owned, has_no_entries}
 use Rattle.room.specs.Rules.{next_link, is_worn, lent_to, lent, left, remaining, passed_to, passed, credited, settled, leaving, granted, lifted, tokened_by, tokened, reduced}
 use Rattle.table.specs.declared.Table.{Table}
@@ -38,12 +38,12 @@ accepted_by r t (e ∷ es) = one (eqb (step_by r t e).«number» DONE) + accepte
 
 -- demand 3 allows 52
 circle-bound : bound begun ≡ 52
-unfolding runs_by fresh_table step_by made_by delivered_by outcome after first is_found any_worn oldest_of oldest_in take_request_by receive_by settle_or_serve_by hand_back_by ask ask_with ask_without upgrade upgraded upgrade_waits serve_queue serve settle lend pass hold want is_empty send join send_out next_link is_worn lent_to lent left remaining passed_to passed credited settled leaving granted lifted tokened_by tokened reduced entry_of larger strongest owned has_no_entries agrees is_stronger can_lend remove padded refusal_as
+unfolding runs_by fresh_table step_by made_by delivered_by outcome after first is_found any_worn oldest_of oldest_in take_request_by receive_by settle_or_serve_by hand_back_by ask ask_with ask_without upgrade upgraded upgrade_waits serve_queue serve settle lend pass hold want is_empty send join send_out next_link is_worn lent_to lent lender_in left remaining passed_to passed credited settled leaving granted lifted tokened_by tokened reduced entry_of larger strongest owned has_no_entries agrees is_stronger can_lend remove padded refusal_as
 circle-bound = refl
 
 -- and of 54 none is refused
 circle-accepted : accepted_by (rules_by circling) begun (rounds 27) ≡ 54
-unfolding runs_by fresh_table step_by made_by delivered_by outcome after first is_found any_worn oldest_of oldest_in take_request_by receive_by settle_or_serve_by hand_back_by ask ask_with ask_without upgrade upgraded upgrade_waits serve_queue serve settle lend pass hold want is_empty send join send_out next_link is_worn lent_to lent left remaining passed_to passed credited settled leaving granted lifted tokened_by tokened reduced entry_of larger strongest owned has_no_entries agrees is_stronger can_lend remove padded refusal_as accepted_by rounds
+unfolding runs_by fresh_table step_by made_by delivered_by outcome after first is_found any_worn oldest_of oldest_in take_request_by receive_by settle_or_serve_by hand_back_by ask ask_with ask_without upgrade upgraded upgrade_waits serve_queue serve settle lend pass hold want is_empty send join send_out next_link is_worn lent_to lent lender_in left remaining passed_to passed credited settled leaving granted lifted tokened_by tokened reduced entry_of larger strongest owned has_no_entries agrees is_stronger can_lend remove padded refusal_as accepted_by rounds
 circle-accepted = refl
 
 -- "at most 3n² + 8n + m further steps are accepted" fails

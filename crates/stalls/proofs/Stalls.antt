@@ -4,7 +4,7 @@ use Rattle.base.specs.Lists.{remove}
 use Rattle.base.specs.Arrays.{padded}
 use Rattle.modes.specs.Codes.{W}
 use Rattle.modes.specs.Modes.{agrees, is_stronger, can_lend}
-use Rattle.room.specs.Record.{entry_of}
+use Rattle.room.specs.Record.{entry_of, lender_in}
 use Rattle.room.specs.Owned.{larger, strongest, owned, has_no_entries}
 use Rattle.room.specs.Rules.{next_link, is_worn, lent_to, lent, left, remaining, passed_to, passed, credited, settled, leaving, granted, lifted, tokened_by, tokened, reduced}
 use Rattle.table.specs.declared.Table.{Table}
@@ -34,7 +34,7 @@ pub record Stalls : Type 0 where
   pub passed : is_still (asked right) ≡ false
 
 pub stalls : Stalls
-unfolding is_still runs_by fresh_table step_by made_by delivered_by outcome after first is_found any_worn oldest_of oldest_in take_request_by receive_by settle_or_serve_by hand_back_by ask ask_with ask_without upgrade upgraded upgrade_waits serve_queue serve settle lend pass hold want is_empty send join send_out next_link is_worn lent_to lent left remaining passed_to passed credited settled leaving granted lifted tokened_by tokened reduced entry_of larger strongest owned has_no_entries agrees is_stronger can_lend remove padded refusal_as
+unfolding is_still runs_by fresh_table step_by made_by delivered_by outcome after first is_found any_worn oldest_of oldest_in take_request_by receive_by settle_or_serve_by hand_back_by ask ask_with ask_without upgrade upgraded upgrade_waits serve_queue serve settle lend pass hold want is_empty send join send_out next_link is_worn lent_to lent lender_in left remaining passed_to passed credited settled leaving granted lifted tokened_by tokened reduced entry_of larger strongest owned has_no_entries agrees is_stronger can_lend remove padded refusal_as
 stalls =
     record {
       unserved = refl;

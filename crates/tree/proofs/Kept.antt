@@ -11,6 +11,7 @@ use Rattle.std.specs.Prelude.{Some, None}
 use Rattle.room.specs.declared.Room.{Room}
 use Rattle.room.specs.Record.{with_modes, with_debt, lender_of}
 use Rattle.room.specs.Rules.{next_link, lent_to, left, remaining, passed_to, credited, tokened_by, reduced}
+use Rattle.room.proofs.Lenders.{lender-either}
 use Rattle.table.specs.declared.Wire.{Wire}
 use Rattle.table.specs.declared.Message.TheVariants as msg
 use Rattle.table.specs.Tables.{no_wire}
@@ -130,7 +131,7 @@ module _ (n : ℕ) (old new : ℕ → Room) (messages : List Wire) (me : ℕ) (l
       sent = wire me y (msg.Token m (remaining (old me) y) (next_link (old me).counter))
 
       lender : ((new me).lender ≡ None) ⊎ ((new me).lender ≡ Some y)
-      lender = rw here (passed-either (old me) y (λ (r : Room). (r.lender ≡ None) ⊎ (r.lender ≡ Some y)) (λ e. inl free) (λ e. inr refl))
+      lender = rw here (passed-either (old me) y (λ (r : Room). (r.lender ≡ None) ⊎ (r.lender ≡ Some y)) (λ e. inl free) (λ e. lender-either y))
 
       at : (c : ℕ) → (new c).lender ≢ None → NoTokenTo c messages → (c ≡ me) ⊎ (c ≢ me)
           → ((new c).lender ≡ Some y) ⊎ (((new c).lender ≡ (old c).lender) × NoTokenTo c messages)

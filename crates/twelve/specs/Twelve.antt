@@ -6,7 +6,7 @@ use Rattle.base.specs.Arrays.{padded}
 use Rattle.modes.specs.Codes.{none, IR, R, U, IW, W}
 use Rattle.modes.specs.Modes.{agrees, is_stronger, can_lend}
 use Rattle.room.specs.Limits.{room_limit}
-use Rattle.room.specs.Record.{blank_room, entry_of, entry_at, with_token, set_entry, is_lender}
+use Rattle.room.specs.Record.{blank_room, entry_of, entry_at, with_token, set_entry, is_lender, lender_in}
 use Rattle.room.specs.Owned.{larger, strongest, owned, has_no_entries}
 use Rattle.room.specs.Rules.{next_link, is_worn, lent_to, lent, left, remaining, passed_to, passed, credited, settled, leaving, granted, lifted, tokened_by, tokened, reduced}
 use Rattle.table.specs.declared.Table.{Table}
@@ -74,6 +74,6 @@ pub twelve-hold : all_hold twelve ≡ true
 unfolding all_hold twelve runs lent_table lending fresh_of fresh_table blank_table step_of made delivered outcome after refusal refusal_as first is_found any_worn oldest_of oldest_in
     well_formed sizes_fit rooms_fine queue_fine wires_fine names_fine room_fine holds_rightly owes_rightly is_lender entries_fine entry_fine is_blank_room is_blank_entry due queued_fine is_blank_queued message_fine is_granted names_rightly wire_fine is_nothing is_blank_wire is_token tokens is_named_in names
     ask ask_with ask_without upgrade hand_back settle_or_serve serve serve_queue upgraded upgrade_waits settle pass lend hold want is_empty take_request receive send join send_out
-    next_link is_worn lent_to lent left remaining passed_to passed credited settled leaving granted lifted tokened_by tokened reduced entry_of larger strongest owned has_no_entries
+    next_link is_worn lent_to lent lender_in left remaining passed_to passed credited settled leaving granted lifted tokened_by tokened reduced entry_of larger strongest owned has_no_entries
     agrees is_stronger can_lend sum total remove padded
 twelve-hold = refl
