@@ -12,19 +12,13 @@ use Rattle.rules.specs.Work.{Work, with_queue, send}
 use Rattle.rules.specs.Rules.{hold, lend, pass, upgrade_waits, upgraded, serve_queue, serve}
 
 -- the head of a queue, and what is left without it
-pub head-is : (l m r : List Queued) (q : Queued) → m ≡ l → Some q ≡ slice_get m 0 → r ≡ remove l 0 → l ≡ q ∷ r
-head-is l m r q e h k = go l (h ∙ ap (λ (x : List Queued). slice_get x 0) e) k
-  where
-    go : (l : List Queued) → Some q ≡ slice_get l 0 → r ≡ remove l 0 → l ≡ q ∷ r
-    go [] h k = cc
-    go (x ∷ l) h k = cc
+pub head-is : (l : List Queued) (q : Queued) → Some q ≡ slice_get l 0 → l ≡ q ∷ remove l 0
+head-is [] q h = cc
+head-is (x ∷ l) q h = cc
 
-pub none-is : (l m : List Queued) → m ≡ l → None ≡ slice_get m 0 → l ≡ []
-none-is l m e h = go l (h ∙ ap (λ (x : List Queued). slice_get x 0) e)
-  where
-    go : (l : List Queued) → None ≡ slice_get l 0 → l ≡ []
-    go [] h = refl
-    go (x ∷ l) h = cc
+pub none-is : (l : List Queued) → None ≡ slice_get l 0 → l ≡ []
+none-is [] h = refl
+none-is (x ∷ l) h = cc
 
 -- serving goes by the list that it is given, whatever queue the work has
 queue-free : (l x : List Queued) (w : Work) → serve_queue (with_queue w x) l ≡ serve_queue w l
@@ -72,82 +66,87 @@ module _ (w x s : Work) (inv : serve_queue w w.queue ≡ s) where
   pub ends : Turns w false x → x ≡ s
   ends t = t.same ∙ inv
 
--- a turn at the desk w, whose fields are those of v, with the queue m
-module _ (v w : Work) (e : v ≡ w) (m : List Queued) (all : m ≡ v.queue) where
-  same : serve_queue v v.queue ≡ serve_queue w w.queue
-  same = ap (λ (x : Work). serve_queue x x.queue) e
-
-  pub turn-empty : None ≡ slice_get m 0 → Turns w false w
+-- a turn at the desk w
+module _ (w : Work) where
+  pub turn-empty : None ≡ slice_get w.queue 0 → Turns w false w
   unfolding serve_queue
   turn-empty h =
-      let p : v.queue ≡ [] = none-is v.queue m all h in
-      record { same = sym e ∙ ap (with_queue v) p ∙ ap (serve_queue v) (sym p) ∙ same; falls = omega arith }
+      let p : w.queue ≡ [] = none-is w.queue h in
+      record { same = ap (with_queue w) p ∙ ap (serve_queue w) (sym p); falls = omega arith }
 
   -- q is the head of the queue
-  module _ (q : Queued) (first : Some q ≡ slice_get m 0) where
+  module _ (q : Queued) (first : Some q ≡ slice_get w.queue 0) where
     abbrev tail : List Queued
-    tail = remove v.queue 0
+    tail = remove w.queue 0
 
-    whole : v.queue ≡ q ∷ tail
-    whole = head-is v.queue m tail q all first refl
+    whole : w.queue ≡ q ∷ tail
+    whole = head-is w.queue q first
 
-    begin : serve_queue v (q ∷ tail) ≡ serve_queue w w.queue
-    begin = ap (serve_queue v) (sym whole) ∙ same
+    begin : serve_queue w (q ∷ tail) ≡ serve_queue w w.queue
+    begin = ap (serve_queue w) (sym whole)
 
     shorter : length tail + 1 ≤ length w.queue
-    shorter = omega (arith, ap length whole, ap (λ (z : Work). length z.queue) e)
+    shorter = omega (arith, ap length whole)
 
-    stays : with_queue v (q ∷ tail) ≡ serve_queue v (q ∷ tail) → Turns w false w
-    stays h = record { same = sym e ∙ ap (with_queue v) whole ∙ h ∙ begin; falls = omega arith }
+    stays : with_queue w (q ∷ tail) ≡ serve_queue w (q ∷ tail) → Turns w false w
+    stays h = record { same = ap (with_queue w) whole ∙ h ∙ begin; falls = omega arith }
 
-    module _ (b : Bool) (t : b ≡ upgrade_waits w.room) where
-      waits : upgrade_waits v.room ≡ b
-      waits = ap (λ (x : Work). upgrade_waits x.room) e ∙ sym t
-
+    module _ (b : Bool) (waits : b ≡ upgrade_waits w.room) where
       pub turn-waits : b ≡ true → Turns w false w
       unfolding serve_queue
-      turn-waits h = stays (sym (simp (waits ∙ h)))
+      turn-waits h = stays (sym (simp (sym waits ∙ h)))
 
-      module _ (free : b ≡ false) (o : ℕ) (own : o ≡ owned v.room) (g : Bool) (a : g ≡ agrees o q.mode) where
-        fits : agrees (owned v.room) q.mode ≡ g
-        fits = ap (λ (k : ℕ). agrees k q.mode) (sym own) ∙ sym a
+      -- the record is read from v, which is w
+      module _ (free : b ≡ false) (v : Work) (e : v ≡ w) (o : ℕ) (own : o ≡ owned v.room) (g : Bool) (a : g ≡ agrees o q.mode) where
+        owns : owned w.room ≡ o
+        owns = sym (own ∙ ap (λ (x : Work). owned x.room) e)
+
+        fits : agrees (owned w.room) q.mode ≡ g
+        fits = ap (λ (k : ℕ). agrees k q.mode) owns ∙ sym a
 
         pub turn-conflict : g ≡ false → Turns w false w
         unfolding serve_queue
-        turn-conflict h = stays (sym (simp (waits ∙ free, fits ∙ h)))
+        turn-conflict h = stays (sym (simp (sym waits ∙ free, fits ∙ h)))
 
-        module _ (agreed : g ≡ true) (queue : List Queued) (left : queue ≡ tail) (x : Work) where
-          pub turn-holds : q.room ≡ v.me → x ≡ hold (with_queue v queue) q.mode → Turns w true x
+        -- the head is off the desk u, whose room is read from s
+        module _ (agreed : g ≡ true) (u : Work) (off : u ≡ with_queue w tail) (s : Work) (f : s ≡ u) (x : Work) where
+          me : s.me ≡ w.me
+          me = ap (λ (z : Work). z.me) (f ∙ off)
+
+          pub turn-holds : q.room ≡ s.me → x ≡ hold u q.mode → Turns w true x
           unfolding serve_queue hold
           turn-holds h y =
-              let done : x ≡ hold (with_queue v tail) q.mode = y ∙ ap (λ (r : List Queued). hold (with_queue v r) q.mode) left in
+              let done : x ≡ hold (with_queue w tail) q.mode = y ∙ ap (λ (z : Work). hold z q.mode) off in
               record {
                 same =
-                    ap (rest true) done ∙ queue-free tail tail (hold v q.mode)
-                    ∙ sym (simp (waits ∙ free, fits ∙ agreed, eq-eqb _ _ h)) ∙ begin;
+                    ap (rest true) done ∙ queue-free tail tail (hold w q.mode)
+                    ∙ sym (simp (sym waits ∙ free, fits ∙ agreed, eq-eqb _ _ (h ∙ me))) ∙ begin;
                 falls = omega (arith, shorter, ap (λ (z : Work). length z.queue) done);
               }
 
-          module _ (other : q.room ≡ v.me → ⊥) (k : Bool) (u : k ≡ can_lend o q.mode) where
-            lends : can_lend (owned v.room) q.mode ≡ k
-            lends = ap (λ (j : ℕ). can_lend j q.mode) (sym own) ∙ sym u
+          module _ (other : q.room ≡ s.me → ⊥) (k : Bool) (lendable : k ≡ can_lend o q.mode) where
+            away : q.room ≡ w.me → ⊥
+            away z = other (z ∙ sym me)
 
-            pub turn-lends : k ≡ true → x ≡ lend (with_queue v queue) q.room q.mode → Turns w true x
+            lends : can_lend (owned w.room) q.mode ≡ k
+            lends = ap (λ (j : ℕ). can_lend j q.mode) owns ∙ sym lendable
+
+            pub turn-lends : k ≡ true → x ≡ lend u q.room q.mode → Turns w true x
             unfolding serve_queue lend send
             turn-lends h y =
-                let done : x ≡ lend (with_queue v tail) q.room q.mode = y ∙ ap (λ (r : List Queued). lend (with_queue v r) q.room q.mode) left in
+                let done : x ≡ lend (with_queue w tail) q.room q.mode = y ∙ ap (λ (z : Work). lend z q.room q.mode) off in
                 record {
                   same =
-                      ap (rest true) done ∙ queue-free tail tail (lend v q.room q.mode)
-                      ∙ sym (simp (waits ∙ free, fits ∙ agreed, ne_eqb _ _ other, lends ∙ h)) ∙ begin;
+                      ap (rest true) done ∙ queue-free tail tail (lend w q.room q.mode)
+                      ∙ sym (simp (sym waits ∙ free, fits ∙ agreed, ne_eqb _ _ away, lends ∙ h)) ∙ begin;
                   falls = omega (arith, shorter, ap (λ (z : Work). length z.queue) done);
                 }
 
-            pub turn-passes : k ≡ false → x ≡ pass (with_queue v queue) q.room q.mode → Turns w false x
+            pub turn-passes : k ≡ false → x ≡ pass u q.room q.mode → Turns w false x
             unfolding serve_queue pass send
             turn-passes h y =
-                let done : x ≡ pass (with_queue v tail) q.room q.mode = y ∙ ap (λ (r : List Queued). pass (with_queue v r) q.room q.mode) left in
+                let done : x ≡ pass (with_queue w tail) q.room q.mode = y ∙ ap (λ (z : Work). pass z q.room q.mode) off in
                 record {
-                  same = done ∙ sym (simp (waits ∙ free, fits ∙ agreed, ne_eqb _ _ other, lends ∙ h)) ∙ begin;
+                  same = done ∙ sym (simp (sym waits ∙ free, fits ∙ agreed, ne_eqb _ _ away, lends ∙ h)) ∙ begin;
                   falls = omega (arith, shorter, ap (λ (z : Work). length z.queue) done);
                 }

@@ -15,7 +15,7 @@ fn ask_with(s: Start, m: u8) -> Desk
     ensures { result ≡ rules.ask_with (start_of s) m }
 {
     let mut desk = Desk::from(s);
-    if desk.queue.is_empty() && modes::agree(m, desk.room.owned()) {
+    if desk.queued == 0 && modes::agree(m, desk.room.owned()) {
         desk.hold(m);
     } else {
         desk.want(m);

@@ -19,14 +19,14 @@ impl Desk {
     pub fn queue(&self) -> &[Queued]
         ensures { result.now ≡ self.now.queue }
     {
-        &self.queue
+        &self.queue[..self.queued]
     }
 
     // The messages that were sent, in the order of sending.
     pub fn sent(&self) -> &[Wire]
         ensures { result.now ≡ self.now.sent }
     {
-        &self.out
+        &self.out[..self.sent]
     }
 
     // Whether a link number above the last was needed.

@@ -4,6 +4,7 @@ pub mod Below
 pub mod Sums
 pub mod Lists
 pub mod Arrays
+pub mod Shifts
 pub mod Letters
 pub mod Folds
 pub mod Ranks

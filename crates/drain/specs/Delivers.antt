@@ -1,5 +1,5 @@
 -- Every delivery lowers the measure, whatever the message is.
-use Rattle.std.specs.Prelude.{◌≡◌, refl, ◌≢◌, Bool, true, false, ◌&&◌, List, ◌++◌, ℕ, ◌≤◌, ◌<◌, eqb}
+use Rattle.std.specs.Prelude.{◌≡◌, refl, ◌≢◌, Bool, true, false, ◌&&◌, List, ◌++◌, ℕ, ◌<◌, eqb}
 use Rattle.std.proofs.Common.{sym, ◌∙◌, ap, append-nil, arith}
 use Rattle.std.proofs.Math.Path.{subst⁻¹}
 use Rattle.std.proofs.Math.Bool.{not}
@@ -8,14 +8,12 @@ use Rattle.base.specs.Choice.{by-test}
 use Rattle.base.specs.Tests.{and_left, and_right}
 use Rattle.base.specs.Sums.{one}
 use Rattle.base.specs.Lists.{remove}
-use Rattle.std.specs.Prelude.{Option, Some, None}
+use Rattle.std.specs.Prelude.{None}
 use Rattle.modes.specs.Modes.{can_lend}
 use Rattle.room.specs.declared.Room.{Room}
-use Rattle.room.specs.Limits.{room_limit}
 use Rattle.room.specs.Record.{with_modes, with_debt, lender_in}
 use Rattle.room.specs.Owned.{owned}
 use Rattle.room.specs.Rules.{lent, lent_to, granted, tokened, tokened_by, reduced}
-use Rattle.room.proofs.Lenders.{lender-within}
 use Rattle.table.specs.declared.Wire.{Wire}
 use Rattle.table.specs.declared.Queued.{Queued}
 use Rattle.table.specs.declared.Message.{Message}
@@ -138,23 +136,21 @@ module _ (n : ℕ) (rooms : ℕ → Room) (messages : List Wire) (me : ℕ) (roo
   paid = (inv.sound.room me low).none-nobody
 
   -- "GRANT"
-  grant-lower : (m l : ℕ) → Oldest messages k a me (msg.Grant m l) → a < n → n ≤ room_limit → Lower n rooms kept before (receive w a (msg.Grant m l))
+  grant-lower : (m l : ℕ) → Oldest messages k a me (msg.Grant m l) → Lower n rooms kept before (receive w a (msg.Grant m l))
   unfolding receive granted
-  grant-lower m l at from_low small =
+  grant-lower m l at =
       subst⁻¹ (Lower n rooms kept before) (left-work me lending room queue a)
       (record {
         height = height;
-        leads = rw at-me at (leads-grant n old (new lending) messages me (others lending) height leads k a m l at.low at.there now-lent);
-        less = rw at-me at (falls-grant n old (new lending) messages me low (others lending) queue 0 height k a m l at now-lent paid);
+        leads = rw at-me at (leads-grant n old (new lending) messages me (others lending) height leads k a m l (lender_in a) at.low at.there now-lent);
+        less = rw at-me at (falls-grant n old (new lending) messages me low (others lending) queue 0 height k a m l (lender_in a) at now-lent paid);
       })
     where
       lending : Room
       lending = with_debt (with_modes room m 0) (lender_in a) m l
 
-      now-lent : new lending me ≡ with_debt (with_modes (old me) m 0) (Some a) m l
-      now-lent =
-          here lending ∙ ap (λ (o : Option ℕ). with_debt (with_modes room m 0) o m l) (lender-within a n from_low small)
-          ∙ sym (ap (λ (r : Room). with_debt (with_modes r m 0) (Some a) m l) at-me)
+      now-lent : new lending me ≡ with_debt (with_modes (old me) m 0) (lender_in a) m l
+      now-lent = here lending ∙ sym (ap (λ (r : Room). with_debt (with_modes r m 0) (lender_in a) m l) at-me)
 
   -- "TOKEN .. then serve": the heights are counted from its receiver
   token-lower : (m rest l : ℕ) → Oldest messages k a me (msg.Token m rest l) → Lower n rooms kept before (receive w a (msg.Token m rest l))
@@ -217,7 +213,7 @@ module _ (n : ℕ) (rooms : ℕ → Room) (messages : List Wire) (me : ℕ) (roo
   unfolding receive is_named_in is_token
   receive-lower msg.Nothing at r t = absurd (proper r.facts)
   receive-lower (msg.Request o m idle) at r t = request-lower o m idle at (proper r.facts) (r.unowned o m idle refl) t
-  receive-lower (msg.Grant m l) at r t = grant-lower m l at r.facts.from_low t.small
+  receive-lower (msg.Grant m l) at r t = grant-lower m l at
   receive-lower (msg.Token m rest l) at r t = token-lower m rest l at
   receive-lower (msg.Reduce l m) at r t =
       reduce-lower l m at r.facts.from_low r.facts.apart t

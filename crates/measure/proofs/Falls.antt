@@ -7,7 +7,7 @@ use Rattle.base.specs.Sums.{one, one-le, sum}
 use Rattle.base.specs.Folds.{folds}
 use Rattle.base.specs.Ranks.{rerooted}
 use Rattle.base.specs.Lists.{remove}
-use Rattle.std.specs.Prelude.{Some, None}
+use Rattle.std.specs.Prelude.{Option, None}
 use Rattle.modes.specs.Codes.{IR}
 use Rattle.modes.specs.Modes.{is_stronger}
 use Rattle.modes.proofs.Laws.{stronger-true}
@@ -124,11 +124,12 @@ module _ (n : ℕ) (old new : ℕ → Room) (messages : List Wire) (me : ℕ) (l
   -- What arrives.
 
   -- "if b has a lender other than a, it sends that lender REDUCE to none": the level of its credit pays for it
-  pub falls-grant : (k a m l : ℕ) → Oldest messages k a me (msg.Grant m l) → new me ≡ with_debt (with_modes (old me) m 0) (Some a) m l
+  pub falls-grant : (k a m l : ℕ) (lender : Option ℕ) → Oldest messages k a me (msg.Grant m l)
+      → new me ≡ with_debt (with_modes (old me) m 0) lender m l
       → ((old me).credit ≡ 0 → (old me).lender ≡ None)
       → potential n new queue (remove k messages ++ leaving_sent me (old me) a) hand height < potential n old queue messages hand height
   unfolding potential load own charge is_token is_request
-  falls-grant k a m l oldest here free = omega (
+  falls-grant k a m l lender oldest here free = omega (
     arith,
     potential-at n new queue (remove k messages ++ leaving_sent me (old me) a) hand height names flag
         (omega (arith, requests-leaving (remove k messages) me (old me) a, requests-taken messages k a me (msg.Grant m l) oldest.low oldest.there))

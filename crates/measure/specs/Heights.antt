@@ -8,7 +8,7 @@ use Rattle.base.specs.Tests.{clash}
 use Rattle.base.specs.Sums.{one, same?}
 use Rattle.base.specs.Ranks.{rerooted, rerooted-here, rerooted-other}
 use Rattle.base.specs.Lists.{total, remove, total-append, total-snoc, total-remove, mem-at}
-use Rattle.std.specs.Prelude.{Some}
+use Rattle.std.specs.Prelude.{Option}
 use Rattle.room.specs.declared.Room.{Room}
 use Rattle.room.specs.Record.{with_modes, with_debt, lender_of}
 use Rattle.room.specs.Owned.{owned}
@@ -101,11 +101,11 @@ module _ (n : ℕ) (old new : ℕ → Room) (messages : List Wire) (me : ℕ) (o
       (rw here (credited-either (old me) (owned (old me)) (λ (r : Room). r.token ≡ (old me).token) (λ e. refl) (λ e. refl)))
       (rw here (credited-either (old me) (owned (old me)) (λ (r : Room). r.toward ≡ (old me).toward) (λ e. refl) (λ e. refl)))
 
-  pub leads-grant : (k a m l : ℕ) → k < length messages → get_or messages k no_wire ≡ wire a me (msg.Grant m l)
-      → new me ≡ with_debt (with_modes (old me) m 0) (Some a) m l
+  pub leads-grant : (k a m l : ℕ) (lender : Option ℕ) → k < length messages → get_or messages k no_wire ≡ wire a me (msg.Grant m l)
+      → new me ≡ with_debt (with_modes (old me) m 0) lender m l
       → Leads n new (remove k messages ++ leaving_sent me (old me) a) height
   unfolding is_token
-  leads-grant k a m l inside there here =
+  leads-grant k a m l lender inside there here =
       still (remove k messages ++ leaving_sent me (old me) a)
       (λ c. omega (
         arith,

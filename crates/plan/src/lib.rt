@@ -19,7 +19,7 @@ pub const BUSY_MESSAGES: usize = 96;
 pub const WORN_COUNTER: u32 = 4294967000;
 
 // What room me has done, and at which place it took a message from the wires, if it took one.
-#[derive(Drop)]
+#[derive(Clone, Copy)]
 pub struct Plan {
     pub me: u8,
     pub taken: Option<usize>,

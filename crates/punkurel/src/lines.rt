@@ -1,8 +1,10 @@
 // Bytes into lines, in whatever pieces they come, and the answers out.
-ghost use Rattle.std.specs.Prelude.{◌≡◌, ◌+◌, ◌≤◌, [], ◌∷◌, ◌++◌, length, IfSome, IfNone, OnOk};
+ghost use Rattle.std.specs.Prelude.{◌≡◌, ◌+◌, ◌≤◌, [], ◌∷◌, ◌++◌, length, take, IfSome, IfNone};
 ghost use Rattle.arrayvec.specs.ArrayVec.{array_vec_len};
 ghost use Rattle.memchr.specs.Find.{Nowhere, Passes, is_byte};
+ghost use Rattle.base.specs.Letters.{line_feed};
 ghost use Rattle.session.specs.Known.{Known};
+ghost use Rattle.punkurel.specs.Kept.{kept_limit};
 
 use arrayvec::ArrayVec;
 use memchr::memchr;
@@ -21,9 +23,9 @@ const FEED: u8 = b'\n';
 
 // The first line of some bytes and what comes behind its feed, where they have a feed.
 fn first_line(bytes: &[u8]) -> Option<(&[u8], &[u8])>
-    ensures whole { IfSome result (λ p. bytes.now ≡ p.0.now ++ FEED ∷ p.1.now) }
-    ensures none_before { IfSome result (λ p. Nowhere (Passes (is_byte FEED) p.0.now) 0 (length p.0.now)) }
-    ensures none { IfNone result (Nowhere (Passes (is_byte FEED) bytes.now) 0 (length bytes.now)) }
+    ensures whole { IfSome result (λ p. bytes.now ≡ p.0.now ++ line_feed ∷ p.1.now) }
+    ensures none_before { IfSome result (λ p. Nowhere (Passes (is_byte line_feed) p.0.now) 0 (length p.0.now)) }
+    ensures none { IfNone result (Nowhere (Passes (is_byte line_feed) bytes.now) 0 (length bytes.now)) }
 {
     let end = memchr(FEED, bytes)?;
     Some((&bytes[..end], &bytes[end + 1..]))
@@ -58,9 +60,9 @@ impl Talk {
         written
     }
 
-    // Makes room for an answer.
+    // Makes room for an answer, also where what stood there could not be written.
     fn make_room(&mut self, rt: &impl Print) -> io::Result<()>
-        ensures { OnOk result (array_vec_len self.new.answers + LINE ≤ BUFFER) }
+        ensures { array_vec_len self.new.answers + LINE ≤ BUFFER }
     {
         if self.answers.remaining_capacity() >= LINE {
             return Ok(());
@@ -69,7 +71,10 @@ impl Talk {
     }
 
     // The line that has begun, with a piece more, as far as it is kept.
-    fn keep(&mut self, piece: &[u8]) {
+    #[tactic(auto, using(crate::proofs::Keeps::kept))]
+    fn keep(&mut self, piece: &[u8])
+        ensures { self.new.begun.items ≡ take kept_limit (self.old.begun.items ++ piece.now) }
+    {
         let n = piece.len().min(self.begun.remaining_capacity());
         self.begun.try_extend_from_slice(&piece[..n]).unwrap();
     }

@@ -19,7 +19,7 @@ pub struct Standing {
 }
 
 // Of a room that does not wait and has no token.
-const NO_STANDING: Standing = Standing {
+pub const NO_STANDING: Standing = Standing {
     due: NONE,
     token: false,
 };

@@ -1,8 +1,10 @@
 // The table by value: rooms, queue and messages; the fresh table; the search for the oldest message.
 #![tactic(auto)]
 
-ghost use Rattle.std.specs.Prelude.{◌≡◌, position};
-ghost use Rattle.table.specs.Tables.{empty_table, blank_table, fresh_of, answer_in};
+ghost use Rattle.std.specs.Prelude.{◌≡◌, ℕ, ◌&&◌, leb, false, position};
+ghost use Rattle.room.specs.Limits.{room_limit};
+ghost use Rattle.table.specs.Numbers.{ROOM};
+ghost use Rattle.table.specs.Tables.{empty_table, blank_table, fresh_of, answer, answer_in};
 ghost use Rattle.table.specs.Oldest.{between, oldest_of};
 
 mod refusal; // refusal.rt: the numbers given back
@@ -85,10 +87,11 @@ fn laid(n: u8, rooms: [Room; ROOMS]) -> Table
     }
 }
 
-// A table of no rooms, with nothing in it. It is not well formed.
-#[tactic(auto, unfolding(crate::specs::Tables::blank_table))]
+// A table of no rooms, with nothing in it: what a refused fresh table is, with its number. It is not well formed.
+#[tactic(auto, unfolding(crate::specs::Tables::blank_table, crate::specs::Tables::fresh_of))]
 pub fn blank() -> Table
-    ensures { result ≡ blank_table }
+    ensures value { result ≡ blank_table }
+    ensures refused { (n : ℕ) → (leb 1 n && leb n room_limit) ≡ false → fresh_of n ≡ answer ROOM result }
 {
     laid(0, [Room::blank(); ROOMS])
 }

@@ -1,0 +1,7 @@
+use Rattle.std.proofs.Common.{sym, ap}
+use Rattle.rules.specs.Work.{Work}
+use Rattle.act.proofs.Laid.{laid-shifted}
+use Rattle.act.proofs.desk.Desk.take_head.Goals as goal
+
+pub invariant_of-self : goal.invariant_of-self
+invariant_of-self c = laid-shifted _ _ _ _ c.self.invariant c.args.self.now (ap (λ (w : Work). w.queue) (sym c.self.view_is)) (ap (λ (w : Work). w.sent) (sym c.self.view_is)) c.requires _ c.copy_within.ensures.len c.copy_within.ensures.after
