@@ -1,6 +1,6 @@
 -- A law for each branch of the fresh table and of the search, over plain values.
 use mathlib.Core.Path.{◌≡◌, refl, sym, ap, ◌∙◌}
-use mathlib.Core.Bool.{true, false, and-false}
+use mathlib.Core.Bool.{true, false, ◌&&◌, and-false}
 use mathlib.Core.List.{List, [], ◌∷◌}
 use Prim.Native.Nat.{ℕ, zero, suc, ◌+◌, ◌≤◌, ◌<◌}
 use native.Mathlib.Omega.{arith}
@@ -13,13 +13,17 @@ use Rattle.table.specs.Limits.{wire_limit}
 use Rattle.room.specs.Record.{blank_room, with_token}
 use Rattle.table.specs.declared.Table.{Table}
 use Rattle.table.specs.declared.Wire.{Wire}
-use Rattle.std.specs.Prelude.{Some, None, position, min}
+use Rattle.table.specs.declared.refusal.Refusal.{Refusal}
+use Rattle.table.specs.Numbers.{ROOM, number_of}
+use Rattle.table.proofs.Known.{number-some}
+use Rattle.base.specs.Choice.{split}
+use lib.Dec.{leb}
+use Rattle.std.specs.Prelude.{Some, None, Err, position, min}
 use Rattle.std.specs.List.{position_or_len}
 use Rattle.std.proofs.lemmas.Grind.{common_steps}
-use Rattle.std.proofs.lemmas.List.{take_min}
 use Rattle.std.proofs.lemmas.List.Sums.{fails_before_first}
 use Rattle.std.proofs.lemmas.List.Quantifiers.{position-Some}
-use Rattle.table.specs.Tables.{no_wire, messages_of, empty_table, fresh_table, blank_table, fresh_of, answer}
+use Rattle.table.specs.Tables.{no_wire, empty_table, fresh_table, blank_table, fresh_of, Answer, answer, answer_in}
 use Rattle.table.specs.Oldest.{found_at, between, oldest_in, oldest_of}
 
 -- the fresh table at the values that the calls give, and what is refused
@@ -36,6 +40,14 @@ module _ (n : ℕ) where
   pub fresh-high : room_limit < n → answer 3 blank_table ≡ fresh_of n
   unfolding fresh_of
   fresh-high h = simp (lt-leb n room_limit h, and-false)
+
+  -- nothing else refuses it
+  pub fresh_room : (why : Refusal) → answer_in blank_table (Err why) ≡ fresh_of n → number_of why ≡ ROOM
+  unfolding fresh_of
+  fresh_room why e =
+      split (leb 1 n && leb n room_limit)
+      (λ h. absurd (number-some why (ap (λ (a : Answer). a.«number») e ∙ simp h)))
+      (λ h. ap (λ (a : Answer). a.«number») e ∙ simp h)
 
 -- the search for the first message is that for its place
 module _ (a b : ℕ) where
@@ -55,30 +67,38 @@ module _ (a b : ℕ) where
       let here : between a b w ≡ false = q 0 (omega arith) in
       simp here (search-miss ws (suc k) (λ j l. q (suc j) (omega arith)))
 
-  pub oldest-none : (ws : List Wire) → position (between a b) ws ≡ None → oldest_in a b 0 ws ≡ None
-  oldest-none ws e =
-      let far : length ws ≤ position_or_len (between a b) ws = grind (arith, common_steps) in
-      search-miss ws 0 (λ j h. fails_before_first (between a b) ws j no_wire (omega arith))
+  -- what is read of the first messages is read of all
+  same-read : (ws : List Wire) (n k j : ℕ) → j < n → j < k → get_or (take n ws) j no_wire ≡ get_or (take k ws) j no_wire
+  same-read ws n k j h l = get_or-take n ws j no_wire h ∙ sym (get_or-take k ws j no_wire l)
 
-  pub oldest-some : (ws : List Wire) (i : ℕ) → position (between a b) ws ≡ Some i → oldest_in a b 0 ws ≡ Some (found_at i (get_or ws i no_wire).message)
-  oldest-some ws i e =
-      let h = position-Some (between a b) ws i no_wire e in
-      search-hit ws 0 i h.0 h.1 h.2 ∙ ap (λ j. Some (found_at j (get_or ws i no_wire).message)) (omega arith)
+  -- of the first n messages, where the first k were looked at: at least these, and none was found
+  pub oldest-none : (ws : List Wire) (n k : ℕ) → position (between a b) (take k ws) ≡ None → min n (length ws) ≤ k → oldest_in a b 0 (take n ws) ≡ None
+  oldest-none ws n k e h =
+      let far : length (take k ws) ≤ position_or_len (between a b) (take k ws) = grind (arith, common_steps) in
+      search-miss (take n ws) 0 (λ j l.
+      let low : j < min n (length ws) = omega (arith, length-take n ws) in
+      ap (between a b) (same-read ws n k j (omega arith) (omega arith))
+      ∙ fails_before_first (between a b) (take k ws) j no_wire (omega (arith, length-take k ws)))
 
--- the same of a table, whose messages in use are those that are looked at
-module _ (t : Table) (a b : ℕ) (long : length t.wires ≡ wire_limit) where
-  in-use : take (min t.count wire_limit) t.wires ≡ messages_of t
-  in-use = rw (← long) (take_min t.count t.wires)
+  -- none but these, and one was found
+  pub oldest-some : (ws : List Wire) (n k i : ℕ) → position (between a b) (take k ws) ≡ Some i → k ≤ n
+      → oldest_in a b 0 (take n ws) ≡ Some (found_at i (get_or ws i no_wire).message)
+  oldest-some ws n k i e h =
+      let p = position-Some (between a b) (take k ws) i no_wire e in
+      let low : i < k = omega (arith, length-take k ws, p.0) in
+      search-hit (take n ws) 0 i (omega (arith, length-take k ws, length-take n ws, p.0))
+      (ap (between a b) (same-read ws n k i (omega arith) low) ∙ p.1)
+      (λ j l. ap (between a b) (same-read ws n k j (omega arith) (omega arith)) ∙ p.2 j l)
+      ∙ ap (λ j. Some (found_at j (get_or (take n ws) i no_wire).message)) (omega arith)
+      ∙ ap (λ w. Some (found_at i w.message)) (get_or-take n ws i no_wire (omega arith))
 
-  pub oldest-absent : position (between a b) (take (min t.count wire_limit) t.wires) ≡ None → None ≡ oldest_of t a b
+-- the same of a table, where those that are looked at are the messages in use
+module _ (t : Table) (a b : ℕ) (long : length t.wires ≡ wire_limit) (k : ℕ) where
+  pub oldest-absent : position (between a b) (take k t.wires) ≡ None → min t.count wire_limit ≤ k → None ≡ oldest_of t a b
   unfolding oldest_of
-  oldest-absent e = sym (oldest-none a b (messages_of t) (rw in-use at e))
+  oldest-absent e h = sym (oldest-none a b t.wires t.count k e (omega (arith, long)))
 
-  pub oldest-present : (i : ℕ) → position (between a b) (take (min t.count wire_limit) t.wires) ≡ Some i
+  pub oldest-present : (i : ℕ) → position (between a b) (take k t.wires) ≡ Some i → k ≤ t.count
       → Some (found_at i (get_or t.wires i no_wire).message) ≡ oldest_of t a b
   unfolding oldest_of
-  oldest-present i e =
-      let p = rw in-use at e in
-      let h = position-Some (between a b) (messages_of t) i no_wire p in
-      let low : i < t.count = omega (arith, length-take t.count t.wires, h.0) in
-      sym (oldest-some a b (messages_of t) i p ∙ ap (λ w. Some (found_at i w.message)) (get_or-take t.count t.wires i no_wire low))
+  oldest-present i e h = sym (oldest-some a b t.wires t.count k i e h)
