@@ -1,5 +1,5 @@
 -- What the plan of a step tells: it is a refusal that the rules give, or work whose outcome is the step.
-use mathlib.Core.Path.{◌≡◌, refl, sym, ◌∙◌}
+use mathlib.Core.Path.{◌≡◌, refl, sym, ap, ◌∙◌}
 use mathlib.Core.Bool.{true, false}
 use Prim.Native.Nat.{ℕ, ◌≤◌}
 use native.Mathlib.Omega.{arith}
@@ -44,14 +44,63 @@ pub record Plans (t : Table) (e : Event) (p : Planned) : Type 0 where
   pub refused : (p.«number» ≡ 0 → ⊥) → answer p.«number» t ≡ step_of t e
   pub made : p.«number» ≡ 0 → Made t e p
 
-module _ (t : Table) (s : Shaped t) (e : Event) where
-  refused-plans : (k : ℕ) → refusal t e ≡ k → (k ≡ 0 → ⊥) → Plans t e (refused_plan k)
+-- what it leads to
+pub record Leads (t : Table) (e : Event) (p : Planned) : Type 0 where
+  pub refused : (p.«number» ≡ 0 → ⊥) → answer p.«number» t ≡ step_of t e
+  pub ends : p.«number» ≡ 0 → outcome t (without t p.taken) p.done ≡ step_of t e
+
+-- whatever the arrays are
+module _ (t : Table) (e : Event) where
+  refused-leads : (k : ℕ) → refusal t e ≡ k → (k ≡ 0 → ⊥) → Leads t e (refused_plan k)
   unfolding step_of
-  refused-plans k h z = record { refused = λ n. sym (simp (h, eqb_no k z)); made = λ n. absurd (z n) }
+  refused-leads k h z = record { refused = λ n. sym (simp (h, eqb_no k z)); ends = λ n. absurd (z n) }
     where
       eqb_no : (k : ℕ) → (k ≡ 0 → ⊥) → eqb k 0 ≡ false
       eqb_no k z = split (eqb k 0) (λ q. absurd (z (eqb-true k 0 q))) (λ q. q)
 
+  -- no refusal applies
+  module _ (h : refusal t e ≡ 0) where
+    steps : made t e ≡ step_of t e
+    unfolding step_of
+    steps = sym (simp h)
+
+    -- work w of room x, with the message that is taken out, if one is
+    leads : (x : ℕ) (taken : Option ℕ) (w : Work) → outcome t (without t taken) w ≡ made t e → Leads t e (made_plan x taken w)
+    leads x taken w q = record { refused = λ z. absurd (z refl); ends = λ z. q ∙ steps }
+
+    taking-leads : is_deliver e ≡ true → (r : Option Found) → oldest_of t e.room e.other ≡ r
+        → delivered t e.room e.other r ≡ made t e → Leads t e (taking t e.room e.other r)
+    unfolding taking delivered
+    taking-leads d None o q = absurd ((accepted t e h).found d o)
+    taking-leads d (Some found) o q = leads e.other (Some found.place) (receive (work_at t e.other) e.room found.message) q
+
+    doing-leads : Leads t e (doing t e)
+    unfolding doing made
+    doing-leads =
+        split (is_ask e)
+        (λ a. rw a (leads e.room None (ask (work_at t e.room) e.mode) (sym (simp a))))
+        (λ a. split (is_upgrade e)
+        (λ u. rw (a, u) (leads e.room None (upgrade (work_at t e.room)) (sym (simp (a, u)))))
+        (λ u. split (is_hand_back e)
+        (λ b. rw (a, u, b) (leads e.room None (hand_back (work_at t e.room)) (sym (simp (a, u, b)))))
+        (λ b. rw (a, u, b) (taking-leads ((accepted t e h).kinds a u b) (oldest_of t e.room e.other) refl (sym (simp (a, u, b)))))))
+
+  -- the plan, where it is told rightly whether the table is well formed, leads to the step
+  pub leads-of : (p : Planned) → p ≡ plan_as (well_formed t) t e → Leads t e p
+  unfolding plan_as refusal
+  leads-of p q =
+      split (eqb (refusal t e) 0)
+      (λ z. let same : p ≡ doing t e = q ∙ simp z in rw same (doing-leads (eqb-true _ _ z)))
+      (λ z. let same : p ≡ refused_plan (refusal t e) = q ∙ simp z in rw same (refused-leads (refusal t e) refl (λ n. absurd (eqb-false _ _ z n))))
+
+-- what is written for it has its places
+record Places (t : Table) (p : Planned) : Type 0 where
+  pub me : p.done.me ≡ p.me
+  pub few : length p.done.queue ≤ queue_limit
+  pub takes : Takes t p.me p.taken
+  pub blank : t.wires ≡ padded wire_limit no_wire (messages_of t)
+
+module _ (t : Table) (s : Shaped t) (e : Event) where
   -- no refusal applies
   module _ (h : refusal t e ≡ 0) where
     acts : Accepted t e
@@ -60,66 +109,58 @@ module _ (t : Table) (s : Shaped t) (e : Event) where
     facts : WellFormed t
     facts = facts-of t s acts.formed
 
-    steps : made t e ≡ step_of t e
-    unfolding step_of
-    steps = sym (simp h)
-
-    -- work w of room x, with the message that is taken out, if one is
-    plans : (x : ℕ) (taken : Option ℕ) → Takes t x taken → (w : Work) (most : ℕ) → Grows most (work_at t x) w → most ≤ queue_limit
-        → outcome t (without t taken) w ≡ made t e → Plans t e (made_plan x taken w)
-    plans x taken k w most g room q =
-        record {
-          refused = λ z. absurd (z refl);
-          made = λ z. record {
-            me = g.me;
-            few = omega (arith, g.queue);
-            takes = k;
-            blank = facts.wires-blank;
-            step = q ∙ steps;
-          };
-        }
+    places : (x : ℕ) (taken : Option ℕ) → Takes t x taken → (w : Work) (most : ℕ) → Grows most (work_at t x) w → most ≤ queue_limit
+        → Places t (made_plan x taken w)
+    places x taken k w most g room =
+        record { me = g.me; few = omega (arith, g.queue); takes = k; blank = facts.wires-blank }
 
     -- an event that takes no message out
-    own-plans : (w : Work) (most : ℕ) → Grows most (work_at t e.room) w → most ≤ queue_limit
-        → outcome t (messages_of t) w ≡ made t e → Plans t e (made_plan e.room None w)
-    own-plans w most g room q =
-        plans e.room None
+    own-places : (w : Work) (most : ℕ) → Grows most (work_at t e.room) w → most ≤ queue_limit → Places t (made_plan e.room None w)
+    own-places w most g room =
+        places e.room None
         (record { low = tt; count = facts.count; acts = omega (arith, acts.low, facts.low) })
-        w most g room q
+        w most g room
 
     -- a delivery
-    taking-plans : is_deliver e ≡ true → (r : Option Found) → oldest_of t e.room e.other ≡ r
-        → delivered t e.room e.other r ≡ made t e → Plans t e (taking t e.room e.other r)
-    unfolding taking delivered
-    taking-plans d None o q = absurd (acts.found d o)
-    taking-plans d (Some found) o q =
+    taking-places : is_deliver e ≡ true → (r : Option Found) → oldest_of t e.room e.other ≡ r → Places t (taking t e.room e.other r)
+    unfolding taking
+    taking-places d None o = absurd (acts.found d o)
+    taking-places d (Some found) o =
         let place = oldest-low t e.room e.other found.place found.message o in
         let all = length-take-le t.count t.wires (omega (arith, facts.count, s.wires)) in
         let w = receive (work_at t e.other) e.room found.message in
-        plans e.other (Some found.place)
+        places e.other (Some found.place)
         (record { low = omega arith; count = facts.count; acts = omega (arith, acts.near d, facts.low) })
-        w _ (receive-grows (work_at t e.other) e.room found.message) (receive-place t s acts.formed e.room e.other found.place found.message o) q
+        w _ (receive-grows (work_at t e.other) e.room found.message) (receive-place t s acts.formed e.room e.other found.place found.message o)
 
-    doing-plans : Plans t e (doing t e)
-    unfolding doing made
-    doing-plans =
+    doing-places : Places t (doing t e)
+    unfolding doing
+    doing-places =
         split (is_ask e)
-        (λ a. rw a (own-plans (ask (work_at t e.room) e.mode) _ (ask-grows (work_at t e.room) e.mode)
-        (omega (arith, asks-place t s acts.formed e.room acts.low (acts.idle (other a)))) (sym (simp a))))
+        (λ a. rw a (own-places (ask (work_at t e.room) e.mode) _ (ask-grows (work_at t e.room) e.mode)
+        (omega (arith, asks-place t s acts.formed e.room acts.low (acts.idle (other a))))))
         (λ a. split (is_upgrade e)
-        (λ u. rw (a, u) (own-plans (upgrade (work_at t e.room)) _ (upgrade-grows (work_at t e.room)) (queue-fits t s acts.formed) (sym (simp (a, u)))))
+        (λ u. rw (a, u) (own-places (upgrade (work_at t e.room)) _ (upgrade-grows (work_at t e.room)) (queue-fits t s acts.formed)))
         (λ u. split (is_hand_back e)
-        (λ b. rw (a, u, b) (own-plans (hand_back (work_at t e.room)) _ (hand-back-grows (work_at t e.room)) (queue-fits t s acts.formed) (sym (simp (a, u, b)))))
-        (λ b. rw (a, u, b) (taking-plans (acts.kinds a u b) (oldest_of t e.room e.other) refl (sym (simp (a, u, b)))))))
+        (λ b. rw (a, u, b) (own-places (hand_back (work_at t e.room)) _ (hand-back-grows (work_at t e.room)) (queue-fits t s acts.formed)))
+        (λ b. rw (a, u, b) (taking-places (acts.kinds a u b) (oldest_of t e.room e.other) refl))))
       where
         -- an ASK is no DELIVER
         other : is_ask e ≡ true → is_deliver e ≡ false
         other a = rw (eqb-true e.kind 0 a)
 
+  places-of : (p : Planned) → p ≡ plan_as (well_formed t) t e → p.«number» ≡ 0 → Places t p
+  unfolding plan_as refusal
+  places-of p q n =
+      split (eqb (refusal t e) 0)
+      (λ z. let same : p ≡ doing t e = q ∙ simp z in rw same (doing-places (eqb-true _ _ z)))
+      (λ z. let same : p ≡ refused_plan (refusal t e) = q ∙ simp z in absurd (eqb-false _ _ z (sym (ap (λ (x : Planned). x.«number») same) ∙ n)))
+
   -- the plan, where it is told rightly whether the table is well formed, is one for the step
   pub plans-of : (p : Planned) → p ≡ plan_as (well_formed t) t e → Plans t e p
-  unfolding plan_as refusal
   plans-of p q =
-      split (eqb (refusal t e) 0)
-      (λ z. let same : p ≡ doing t e = q ∙ simp z in rw same (doing-plans (eqb-true _ _ z)))
-      (λ z. let same : p ≡ refused_plan (refusal t e) = q ∙ simp z in rw same (refused-plans (refusal t e) refl (λ n. absurd (eqb-false _ _ z n))))
+      let l = leads-of t e p q in
+      record {
+        refused = l.refused;
+        made = λ z. let m = places-of p q z in record { me = m.me; few = m.few; takes = m.takes; blank = m.blank; step = l.ends z };
+      }

@@ -4,6 +4,7 @@ use mathlib.Core.Bool.{Bool, true, ◌&&◌}
 use Prim.Native.Nat.{◌≤◌}
 use native.Mathlib.Omega.{arith}
 use lib.Dec.{leb, eqb}
+use lib.ListN.{length}
 use lib.Seq.{length-take-le}
 use borrow.Author.Tests.{leb-true, le-leb, eqb-true, eqb-false}
 use Rattle.base.specs.Choice.{split}
@@ -14,9 +15,8 @@ use Rattle.table.specs.declared.Table.{Table}
 use Rattle.table.specs.declared.Found.{Found}
 use Rattle.table.specs.Limits.{wire_limit}
 use Rattle.table.specs.Oldest.{oldest_of}
-use Rattle.table.specs.Formed.{well_formed}
-use Rattle.facts.specs.Shapes.{Shaped}
-use Rattle.facts.specs.Whole.{WellFormed, facts-of}
+use Rattle.table.specs.Formed.{sizes_fit, well_formed}
+use Rattle.facts.specs.Whole.{rooms-low}
 use Rattle.facts.specs.Search.{oldest-low}
 use Rattle.facts.specs.Accepted.{AcceptedAs, accepted-as}
 use Rattle.rules.specs.declared.Event.{Event}
@@ -25,16 +25,18 @@ use Rattle.rules.specs.Refusals.{refusal_as}
 use Rattle.plan.specs.Plans.{Planned, refused_plan, taking, doing, placed, plan_as}
 use Rattle.step.specs.Writes.{Takes}
 
-module _ (t : Table) (s : Shaped t) where
-  -- what is told rightly is believed: a table that is well formed has its places
-  pub told-rightly : (formed : Bool) → formed ≡ well_formed t → (formed && placed t) ≡ well_formed t
-  unfolding placed
-  told-rightly formed e = split (well_formed t) (λ w. rw (e, w) (has (facts-of t s w))) (λ w. rw (e, w))
-    where
-      has : WellFormed t → (leb t.n room_limit && leb t.count wire_limit) ≡ true
-      has f = simp (le-leb _ _ f.low, le-leb _ _ f.count)
+module _ (t : Table) where
+  -- a table that is well formed has its places, so what is told rightly is believed
+  has-places : well_formed t ≡ true → placed t ≡ true
+  unfolding well_formed sizes_fit placed
+  has-places w =
+      let few : leb t.count wire_limit ≡ true = search (and_left, and_right) depth 25 fits 4000 in
+      rw (le-leb _ _ (rooms-low t w), few)
 
-  module _ (e : Event) (told : Bool) (fits : told ≡ true → placed t ≡ true) where
+  pub told-rightly : (formed : Bool) → formed ≡ well_formed t → (formed && placed t) ≡ well_formed t
+  told-rightly formed e = split (well_formed t) (λ w. rw (e, w) (has-places w)) (λ w. rw (e, w))
+
+  module _ (long : length t.wires ≡ wire_limit) (e : Event) (told : Bool) (fits : told ≡ true → placed t ≡ true) where
     -- no refusal applies
     module _ (h : refusal_as told t e ≡ 0) where
       acts : AcceptedAs told t e
@@ -58,7 +60,7 @@ module _ (t : Table) (s : Shaped t) where
       delivery d None o = absurd (acts.found d o)
       delivery d (Some found) o =
           let place = oldest-low t e.room e.other found.place found.message o in
-          let all = length-take-le t.count t.wires (omega (arith, messages, s.wires)) in
+          let all = length-take-le t.count t.wires (omega (arith, messages, long)) in
           record { low = omega arith; count = messages; acts = omega (arith, acts.near d, rooms) }
 
       done : Takes t (doing t e).me (doing t e).taken

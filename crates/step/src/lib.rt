@@ -34,6 +34,7 @@ fn fits(count: usize, p: &Plan) -> Result<(), Refusal>
 }
 
 // One step by any event, without the test of the table: formed tells whether t is well formed. Told rightly it gives the answer of step.
+#[tactic(auto, using(crate::proofs::Ends::told_unplanned, crate::proofs::Ends::step_unplanned, crate::proofs::Ends::told_unfit, crate::proofs::Ends::step_unfit))]
 pub fn step_untested(t: Table, e: Event, formed: bool) -> Result<Table, Refusal>
     ensures as_told { answer_in t result ≡ step_as formed t e }
     ensures told_rightly { formed ≡ well_formed t → answer_in t result ≡ step_of t e }
