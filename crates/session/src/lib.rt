@@ -35,7 +35,7 @@ fn other(t: Table) -> Refusal
 
 // What a line asks for is done, or refused; formed tells whether t is well formed. A refusal leaves the table as it is.
 // formed stays beside t, and is no fact of a type: what turn_known tells of a table that is no session's own need not be so.
-#[tactic(auto, using(crate::proofs::Fresh::fresh_begun), unfolding(crate::specs::Turns::obeyed_by))]
+#[tactic(auto, using(crate::proofs::Fresh::fresh_begun, table::proofs::Laws::fresh_room), unfolding(crate::specs::Turns::obeyed_by))]
 fn obey(t: Table, c: Option<Command>, formed: bool) -> Result<Table, Refusal>
     ensures as_told { answer_in t result ≡ obeyed_as formed t c }
     ensures told_rightly { formed ≡ well_formed t → answer_in t result ≡ obeyed t c }
