@@ -5,7 +5,7 @@ use native.Mathlib.Omega.{arith}
 use Rattle.base.specs.Choice.{by-test}
 use Rattle.base.specs.Sums.{same?}
 use Rattle.base.specs.Lists.{remove}
-use Rattle.std.specs.Prelude.{Some}
+use Rattle.std.specs.Prelude.{Option}
 use Rattle.room.specs.declared.Room.{Room}
 use Rattle.room.specs.Limits.{last_link}
 use Rattle.room.specs.Record.{with_modes, with_debt, lender_of}
@@ -117,10 +117,10 @@ module _ (n : ℕ) (old new : ℕ → Room) (messages : List Wire) (me : ℕ) (l
       (omega (arith, requests-sent messages me (lender_of (old me)) (msg.Reduce (old me).link (owned (old me)))))
       (ap (λ (r : Room). r.counter) here ∙ credited-counter (old me) (owned (old me)))
 
-  pub counters-grant : (k a m l : ℕ) → k < length messages → get_or messages k no_wire ≡ wire a me (msg.Grant m l)
-      → new me ≡ with_debt (with_modes (old me) m 0) (Some a) m l
+  pub counters-grant : (k a m l : ℕ) (lender : Option ℕ) → k < length messages → get_or messages k no_wire ≡ wire a me (msg.Grant m l)
+      → new me ≡ with_debt (with_modes (old me) m 0) lender m l
       → Counters n old queue messages hand → Counters n new queue (remove k messages ++ leaving_sent me (old me) a) hand
-  counters-grant k a m l inside there here =
+  counters-grant k a m l lender inside there here =
       kept (remove k messages ++ leaving_sent me (old me) a)
       (omega (arith, requests-taken messages k a me (msg.Grant m l) inside there, requests-leaving (remove k messages) me (old me) a))
       (ap (λ (r : Room). r.counter) here)

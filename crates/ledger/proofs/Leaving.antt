@@ -10,9 +10,9 @@ use Rattle.std.specs.Prelude.{Some, None}
 use Rattle.room.specs.declared.Room.{Room}
 use Rattle.room.specs.declared.Reduce.{Reduce}
 use Rattle.room.specs.Limits.{room_limit}
-use Rattle.room.specs.Record.{with_modes, with_debt, lender_of}
+use Rattle.room.specs.Record.{with_modes, with_debt, lender_of, lender_in}
 use Rattle.room.specs.Rules.{credited, tokened_by}
-use Rattle.room.proofs.Lenders.{lends-other}
+use Rattle.room.proofs.Lenders.{lends-other, lender-low}
 use Rattle.table.specs.declared.Wire.{Wire}
 use Rattle.table.specs.declared.Message.{Message}
 use Rattle.table.specs.declared.Message.TheVariants as msg
@@ -107,11 +107,11 @@ module _ (n : ℕ) (old new : ℕ → Room) (messages : List Wire) (me : ℕ) (l
       leaving-both
       (λ b. (
         ledger-grant n old new messages me others ledger k a other m o small b j l e here,
-        links-grant n old new messages me others links k a m o alone j l e here other there,
+        links-grant n old new messages me others links k a m o alone j l e (here ∙ named (old me)) other there,
       ))
       (λ b. (
         ledger-grant n paid new (messages ++ (reduce ∷ [])) me new-other (pay-ledger b) k a other m later small (inl (ap (λ (r : Room). r.lender) paid-me)) j l e now,
-        links-grant n paid new (messages ++ (reduce ∷ [])) me new-other (pay-links b) k a m later alone-paid j l e now other (Memᴰ.append_left (reduce ∷ []) there),
+        links-grant n paid new (messages ++ (reduce ∷ [])) me new-other (pay-links b) k a m later alone-paid j l e (now ∙ named (paid me)) other (Memᴰ.append_left (reduce ∷ []) there),
       ))
     where
       later : Oldest (messages ++ (reduce ∷ [])) k a me m
@@ -119,6 +119,10 @@ module _ (n : ℕ) (old new : ℕ → Room) (messages : List Wire) (me : ℕ) (l
 
       now : new me ≡ with_debt (with_modes (paid me) j 0) (Some a) j l
       now = here ∙ sym (ap (λ (r : Room). with_debt (with_modes r j 0) (Some a) j l) paid-me)
+
+      -- the lender is the room that the sender's number names
+      named : (r : Room) → with_debt (with_modes r j 0) (Some a) j l ≡ with_debt (with_modes r j 0) (lender_in a) j l
+      named r = ap (λ (o : Option ℕ). with_debt (with_modes r j 0) o j l) (sym (lender-low a (omega (arith, small))))
 
   -- "TOKEN"
   pub tokened-both : (j rest l : ℕ) → m ≡ msg.Token j rest l → new me ≡ tokened_by (old me) me a j rest l

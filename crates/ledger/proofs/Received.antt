@@ -3,7 +3,7 @@ use Rattle.std.specs.Prelude.{◌≡◌, ◌≢◌, ◌⊎◌, Bool, false, List
 use Rattle.std.proofs.Math.Path.{refl, ap}
 use Rattle.std.proofs.Common.{sym, ◌∙◌, arith}
 use Rattle.std.proofs.Math.Logic.{inl, inr, ⊎_elim}
-use Rattle.std.proofs.lemmas.Option.{none-some, same_Some}
+use Rattle.std.proofs.lemmas.Option.{none-some}
 use Rattle.base.specs.Choice.{by-test}
 use Rattle.base.specs.Sums.{same?}
 use Rattle.base.specs.Lists.{Mem, remove, mem-remove}
@@ -11,9 +11,9 @@ use Rattle.base.specs.Folds.{folds}
 use Rattle.std.specs.Prelude.{Some, None}
 use Rattle.room.specs.declared.Room.{Room}
 use Rattle.room.specs.Limits.{room_limit}
-use Rattle.room.specs.Record.{with_modes, with_debt, lender_of}
+use Rattle.room.specs.Record.{with_modes, with_debt, lender_of, lender_in}
 use Rattle.room.specs.Rules.{credited, lifted, tokened_by, reduced}
-use Rattle.room.proofs.Lenders.{lends-low}
+use Rattle.room.proofs.Lenders.{lends-low, lender-named}
 use Rattle.table.specs.declared.Wire.{Wire}
 use Rattle.table.specs.declared.Message.{Message}
 use Rattle.table.specs.declared.Message.TheVariants as msg
@@ -119,7 +119,7 @@ module _ (n : ℕ) (old new : ℕ → Room) (messages : List Wire) (me : ℕ) (o
           ⊎_elim (λ q. absurd (ungranted w j q x y g)) (λ q. inl (owes-other n old new messages me others links w.«from» w.to q e)) (same? w.to me)
 
       -- "GRANT: .. Then lender a, the new link number"
-      pub links-grant : (j l : ℕ) → m ≡ msg.Grant j l → new me ≡ with_debt (with_modes (old me) j 0) (Some a) j l → a ≢ me → Mem (wire a me m) messages
+      pub links-grant : (j l : ℕ) → m ≡ msg.Grant j l → new me ≡ with_debt (with_modes (old me) j 0) (lender_in a) j l → a ≢ me → Mem (wire a me m) messages
           → Links n new (remove k messages)
       unfolding is_token
       links-grant j l e here other i =
@@ -132,7 +132,7 @@ module _ (n : ℕ) (old new : ℕ → Room) (messages : List Wire) (me : ℕ) (o
 
           own : (p : ℕ) → (new me).lender ≡ Some p → (new me).link ≤ reach new (remove k messages) p me
           own p q =
-              let lent : a ≡ p = same_Some a p (sym (ap (λ (r : Room). r.lender) here) ∙ q) in
+              let lent : a ≡ p = sym (lender-named a p (sym (ap (λ (r : Room). r.lender) here) ∙ q)) in
               let number : (new me).link ≡ l = ap (λ (r : Room). r.link) here in
               rw (← lent)
               (omega (arith, number, links.grant (wire a me m) i j l e, reach-up me a messages (old a).counter, grows a me))

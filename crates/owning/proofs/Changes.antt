@@ -5,7 +5,7 @@ use Rattle.std.proofs.Common.{sym, ◌∙◌, ap, inl, inr, arith, get_or-set_sa
 use Rattle.base.specs.Choice.{by-test}
 use Rattle.base.specs.Tests.{and_right}
 use Rattle.base.specs.Sums.{same?, below?}
-use Rattle.std.specs.Prelude.{Some}
+use Rattle.std.specs.Prelude.{Option}
 use Rattle.modes.specs.Codes.{none, IR}
 use Rattle.modes.specs.Under.{under}
 use Rattle.modes.proofs.Laws.{under-refl, none-under, IR-under, stronger-true}
@@ -77,9 +77,9 @@ module _ (r : Room) where
   wanted-same v = same_parts r (with_modes r r.held v) refl refl
 
   -- a GRANT
-  pub granted-alters : (a m l : ℕ) → Alters r (with_debt (with_modes r m 0) (Some a) m l) room_limit m
-  granted-alters a m l =
-      alike r (with_modes r m 0) (with_debt (with_modes r m 0) (Some a) m l) room_limit m (omega arith) (modes-alters m 0) refl refl
+  pub granted-alters : (lender : Option ℕ) (m l : ℕ) → Alters r (with_debt (with_modes r m 0) lender m l) room_limit m
+  granted-alters lender m l =
+      alike r (with_modes r m 0) (with_debt (with_modes r m 0) lender m l) room_limit m (omega arith) (modes-alters m 0) refl refl
 
   -- what is owed is no part
   pub credited-same : (m : ℕ) → Same r (credited r m)

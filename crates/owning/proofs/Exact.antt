@@ -4,7 +4,7 @@ use Rattle.std.proofs.Math.Path.{sym, ap, subst⁻¹}
 use Rattle.std.proofs.Common.{◌∙◌, inl, inr, arith}
 use Rattle.base.specs.Tests.{clash}
 use Rattle.base.specs.Sums.{same?}
-use Rattle.std.specs.Prelude.{Some}
+use Rattle.std.specs.Prelude.{Option}
 use Rattle.modes.specs.Codes.{none, IR}
 use Rattle.modes.specs.Modes.{is_stronger, can_lend}
 use Rattle.modes.specs.Under.{under, small}
@@ -100,12 +100,12 @@ module _ (n : ℕ) (old new : ℕ → Room) (me : ℕ) (low : me < n) (others : 
         ∙ loan-same (old me) (with_modes (old me) h v) agreeing room_limit h (modes-alters (old me) h v) can (part_held (old me) ∙ free))
 
     -- a GRANT arrives that fits
-    pub exact-grant : (a m l : ℕ) → Agreeing (old me) → under (owned (old me)) m ≡ true → small m ≡ true
-        → new me ≡ with_debt (with_modes (old me) m 0) (Some a) m l → Exact n new
-    exact-grant a m l agreeing fits weak here =
+    pub exact-grant : (lender : Option ℕ) (m l : ℕ) → Agreeing (old me) → under (owned (old me)) m ≡ true → small m ≡ true
+        → new me ≡ with_debt (with_modes (old me) m 0) lender m l → Exact n new
+    exact-grant lender m l agreeing fits weak here =
         room (λ f. ap (λ (r : Room). r.credit) here
         ∙ sym (ap owned here
-        ∙ grant-owned (old me) (with_debt (with_modes (old me) m 0) (Some a) m l) agreeing room_limit m (granted-alters (old me) a m l) fits weak (omega arith)))
+        ∙ grant-owned (old me) (with_debt (with_modes (old me) m 0) lender m l) agreeing room_limit m (granted-alters (old me) lender m l) fits weak (omega arith)))
 
     -- "pass": credit is what remains, and that is what the room then owns
     pub exact-pass : (y : ℕ) → length (old me).entries ≡ room_limit → y < room_limit → (old me).credit ≡ none → new me ≡ passed_to (old me) y → Exact n new

@@ -3,7 +3,7 @@ use Rattle.std.specs.Prelude.{◌≡◌, refl, ◌≢◌, ◌⊎◌, true, false
 use Rattle.std.proofs.Common.{◌∙◌, ap, inl, inr, arith}
 use Rattle.base.specs.Sums.{same?}
 use Rattle.base.specs.Lists.{remove, mem-at}
-use Rattle.std.specs.Prelude.{Some}
+use Rattle.std.specs.Prelude.{Option}
 use Rattle.modes.specs.Codes.{none, W}
 use Rattle.modes.specs.Modes.{agrees, can_lend}
 use Rattle.modes.specs.Under.{under, small}
@@ -70,16 +70,16 @@ module _ (n : ℕ) (old new : ℕ → Room) (messages : List Wire) (me : ℕ) (l
       (wire me y (msg.Reduce l m)) (λ k rest l e. absurd (omega (arith, ap kind e)))
 
   -- a GRANT arrives that fits
-  pub pairs-grant : (k a m l : ℕ) → new me ≡ with_debt (with_modes (old me) m 0) (Some a) m l → under (owned (old me)) m ≡ true → small m ≡ true
+  pub pairs-grant : (k a m l : ℕ) (lender : Option ℕ) → new me ≡ with_debt (with_modes (old me) m 0) lender m l → under (owned (old me)) m ≡ true → small m ≡ true
       → Unnamed me (remove k messages) → Pairs n new (remove k messages ++ leaving_sent me (old me) a)
-  pairs-grant k a m l here fits weak unnamed =
+  pairs-grant k a m l lender here fits weak unnamed =
       pairs-leaving n new (remove k messages)
       (pairs-unnamed n old new (remove k messages) me low others (pairs-taken n old messages p k) (rw here agreeing) unnamed)
       me (old me) a
     where
-      agreeing : Agreeing (with_debt (with_modes (old me) m 0) (Some a) m l)
+      agreeing : Agreeing (with_debt (with_modes (old me) m 0) lender m l)
       agreeing =
-          alters-agreeing (old me) (with_debt (with_modes (old me) m 0) (Some a) m l) (p.room me low) room_limit m (granted-alters (old me) a m l) λ i h ne.
+          alters-agreeing (old me) (with_debt (with_modes (old me) m 0) lender m l) (p.room me low) room_limit m (granted-alters (old me) lender m l) λ i h ne.
           under-small-agree m (part (old me) i) m weak (under-refl m)
           (under-trans (part (old me) i) (owned (old me)) m (part-under (old me) (p.room me low) i h) fits)
 

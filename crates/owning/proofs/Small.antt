@@ -3,7 +3,7 @@ use Rattle.std.specs.Prelude.{◌≡◌, refl, ◌≢◌, ◌⊎◌, Bool, true,
 use Rattle.std.proofs.Common.{sym, ◌∙◌, ap, inl, inr, ⊎_elim, arith}
 use Rattle.base.specs.Sums.{same?}
 use Rattle.base.specs.Lists.{remove, mem-at, mem-remove}
-use Rattle.std.specs.Prelude.{Some}
+use Rattle.std.specs.Prelude.{Option}
 use Rattle.modes.specs.Codes.{none, IR, R}
 use Rattle.modes.specs.Modes.{agrees, can_lend}
 use Rattle.modes.specs.Under.{under, small}
@@ -117,8 +117,8 @@ module _ (n : ℕ) (old new : ℕ → Room) (messages : List Wire) (me : ℕ) (l
       (small-room (rw here (falls-small (old me) (credited (old me) (owned (old me))) entries (same-falls _ _ (credited-same (old me) (owned (old me)))))))
 
   -- a GRANT arrives
-  pub small-grant : (k a m l : ℕ) → new me ≡ with_debt (with_modes (old me) m 0) (Some a) m l → Small n new (remove k messages ++ leaving_sent me (old me) a)
-  small-grant k a m l here =
+  pub small-grant : (k a m l : ℕ) (lender : Option ℕ) → new me ≡ with_debt (with_modes (old me) m 0) lender m l → Small n new (remove k messages ++ leaving_sent me (old me) a)
+  small-grant k a m l lender here =
       small-leaving n new (remove k messages) (small-taken n new messages (small-room (rw here entries)) k) me (old me) a
 
   module _ (fits : n ≤ room_limit) (long : length (old me).entries ≡ room_limit) (y : ℕ) (near : y < n) where

@@ -101,7 +101,7 @@ module _ (n : ℕ) (rooms : ℕ → Room) (messages : List Wire) (me : ℕ) (roo
                   rw at-me at (clauses-grant n old (new lending) queue messages me low taken.small (rw at-me taken.long) (others lending) (inv.sound.room me low) senders 0 inv.clauses k a
                   from_low other m l at now-lent (unnamed 0 low taken) facts.weak);
               exact =
-                  exact-grant n old (new lending) me low (others lending) inv.exact a m l (inv.clauses.pairs.room me low)
+                  exact-grant n old (new lending) me low (others lending) inv.exact (Some a) m l (inv.clauses.pairs.room me low)
                   (inv.clauses.fits (wire a me (msg.Grant m l)) grant m l refl) facts.weak now-lent;
               light = light-other n old (new lending) queue me low (others lending) inv.light (λ e. omega (arith, ap (λ (r : Room). r.wanted) (here lending)));
               served = served-other n old (new lending) queue me (others lending) (rw (here lending, ← at-me) facts.without) inv.served;

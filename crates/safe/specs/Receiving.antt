@@ -1,15 +1,16 @@
 -- Every clause is kept where a GRANT, the TOKEN or a REDUCE arrives.
 use Rattle.std.specs.Prelude.{◌≡◌, ◌≢◌, true, false, List, ◌++◌, ℕ, ◌≤◌, ◌<◌, length}
 use Rattle.std.proofs.Math.Path.{refl}
-use Rattle.std.proofs.Common.{◌∙◌, ap, ⊎_elim, append-nil, arith}
+use Rattle.std.proofs.Common.{sym, ◌∙◌, ap, ⊎_elim, append-nil, arith}
 use Rattle.base.specs.Lists.{Mem, remove, mem-at}
-use Rattle.std.specs.Prelude.{Some}
+use Rattle.std.specs.Prelude.{Option, Some}
 use Rattle.modes.specs.Codes.{IR}
 use Rattle.modes.specs.Under.{small}
 use Rattle.room.specs.declared.Room.{Room}
 use Rattle.room.specs.Limits.{room_limit}
-use Rattle.room.specs.Record.{entry_of, with_modes, with_debt, set_entry, lender_of}
+use Rattle.room.specs.Record.{entry_of, with_modes, with_debt, set_entry, lender_of, lender_in}
 use Rattle.room.specs.Rules.{tokened_by, reduced}
+use Rattle.room.proofs.Lenders.{lender-within}
 use Rattle.table.specs.declared.Wire.{Wire}
 use Rattle.table.specs.declared.Queued.{Queued}
 use Rattle.table.specs.declared.Message.{Message}
@@ -74,14 +75,18 @@ module _ (n : ℕ) (old new : ℕ → Room) (queue : List Queued) (messages : Li
             sender-leaving new (remove p messages) me (old me) a
             (sender-taken old new messages k.sender (alike old new me others (λ r. r.toward) (rw here refl))
             (counters-kept n old new messages me others k.links (rw here (omega arith))) p o.low);
-        small = small-grant n old new messages me low others k.small p a m l here;
-        pairs = pairs-grant n old new messages me low others k.pairs p a m l here (k.fits (wire a me (msg.Grant m l)) (there (msg.Grant m l) o) m l refl) weak unnamed;
+        small = small-grant n old new messages me low others k.small p a m l (Some a) here;
+        pairs = pairs-grant n old new messages me low others k.pairs p a m l (Some a) here (k.fits (wire a me (msg.Grant m l)) (there (msg.Grant m l) o) m l refl) weak unnamed;
         fits = fits-arrived n old new messages me low others k.fits p a unnamed;
         idle = idle-arrived n old new messages me low others k.idle p a unnamed;
-        tree = grant-tree n old new messages me low others k.tree p a m l o.low o.there here;
+        tree = grant-tree n old new messages me low others k.tree p a m l o.low o.there (here ∙ named);
         few = messages-grant n old new messages me low others queue hand p a m l o.low o.there k.few;
-        counters = counters-grant n old new messages me low others queue hand p a m l o.low o.there here k.counters;
+        counters = counters-grant n old new messages me low others queue hand p a m l (Some a) o.low o.there here k.counters;
       }
+    where
+      -- the lender is the room that the sender's number names
+      named : with_debt (with_modes (old me) m 0) (Some a) m l ≡ with_debt (with_modes (old me) m 0) (lender_in a) m l
+      named = ap (λ (o : Option ℕ). with_debt (with_modes (old me) m 0) o m l) (sym (lender-within a n from_low limit))
 
   -- "TOKEN"
   pub clauses-token : (m rest l : ℕ) → Oldest messages p a me (msg.Token m rest l) → new me ≡ tokened_by (old me) me a m rest l

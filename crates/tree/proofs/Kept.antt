@@ -7,9 +7,10 @@ use Rattle.std.proofs.lemmas.Bool.{false≢true}
 use mathlib.Core.List.Memᴰ
 use Rattle.base.specs.Sums.{same?}
 use Rattle.base.specs.Lists.{Mem, remove, mem-remove, mem-snoc, mem-at}
-use Rattle.std.specs.Prelude.{Some, None}
+use Rattle.std.specs.Prelude.{Option, Some, None, unwrap_or}
 use Rattle.room.specs.declared.Room.{Room}
-use Rattle.room.specs.Record.{with_modes, with_debt, lender_of}
+use Rattle.room.specs.Limits.{nobody}
+use Rattle.room.specs.Record.{with_modes, with_debt, lender_of, lender_in}
 use Rattle.room.specs.Rules.{next_link, lent_to, left, remaining, passed_to, credited, tokened_by, reduced}
 use Rattle.room.proofs.Lenders.{lender-either}
 use Rattle.table.specs.declared.Wire.{Wire}
@@ -143,7 +144,7 @@ module _ (n : ℕ) (old new : ℕ → Room) (messages : List Wire) (me : ℕ) (l
   module _ (k : ℕ) (a : ℕ) where
     -- GRANT: its sender is below its receiver
     pub grant-tree : (m l : ℕ) → k < length messages → get_or messages k no_wire ≡ wire a me (msg.Grant m l)
-        → new me ≡ with_debt (with_modes (old me) m 0) (Some a) m l → Tree n new (remove k messages ++ leaving_sent me (old me) a)
+        → new me ≡ with_debt (with_modes (old me) m 0) (lender_in a) m l → Tree n new (remove k messages ++ leaving_sent me (old me) a)
     unfolding is_token is_grant
     grant-tree m l inside is here =
         record {
@@ -161,7 +162,11 @@ module _ (n : ℕ) (old new : ℕ → Room) (messages : List Wire) (me : ℕ) (l
 
         at : (c : ℕ) → c < n → (new c).lender ≢ None → NoTokenTo c messages → (c ≡ me) ⊎ (c ≢ me) → t.rank (lender_of (new c)) < t.rank c
         at c low some untold (inl e) =
-            omega (arith, nearer, ap (λ (x : ℕ). t.rank (lender_of (new x))) e, ap (λ (r : Room). t.rank (lender_of r)) here, ap t.rank e)
+            let lent : (new c).lender ≡ lender_in a = ap (λ (x : ℕ). (new x).lender) e ∙ ap (λ (r : Room). r.lender) here in
+            ⊎_elim (λ z. absurd (some (lent ∙ z)))
+            (λ z. let from : lender_of (new c) ≡ a = ap (λ (o : Option ℕ). unwrap_or o nobody) (lent ∙ z) in
+            omega (arith, nearer, ap t.rank from, ap t.rank e))
+            (lender-either a)
         at c low some untold (inr e) =
             let same : (new c).lender ≡ (old c).lender = ap (λ (r : Room). r.lender) (others c e) in
             rw same (t.lender c low (λ q. some (same ∙ q)) untold)
