@@ -16,7 +16,6 @@ use Rattle.rules.specs.Work.{Work, work_at}
 use Rattle.rules.specs.Rules.{ask, upgrade, hand_back, receive}
 use Rattle.rules.specs.Refusals.{refusal_as}
 use Rattle.act.specs.declared.Start.{Start}
-use Rattle.plan.specs.declared.Plan.{Plan}
 
 -- a room before it acts, and the queue
 abbrev pub start_at : ℕ → Room → List Queued → ℕ → Start
@@ -25,6 +24,12 @@ start_at me room queue queued = record { me = me; room = room; queue = queue; qu
 -- a plan, with the number that it is refused with
 pub record Planned : Type 0 where
   pub «number» : ℕ
+  pub me : ℕ
+  pub taken : Option ℕ
+  pub done : Work
+
+-- a plan that is made, as its readers see it
+pub record Making : Type 0 where
   pub me : ℕ
   pub taken : Option ℕ
   pub done : Work
@@ -40,11 +45,11 @@ abbrev pub refused_plan : ℕ → Planned
 refused_plan k = record { «number» = k; me = 0; taken = None; done = idle }
 
 -- a plan that is made
-abbrev pub made_of : Plan → Planned
+abbrev pub made_of : Making → Planned
 made_of p = made_plan p.me p.taken p.done
 
 -- what a result says
-abbrev pub planned_in : Result Plan Refusal → Planned
+abbrev pub planned_in : Result Making Refusal → Planned
 planned_in (Ok p) = made_of p
 planned_in (Err refusal) = refused_plan (number_of refusal)
 

@@ -11,6 +11,7 @@ ghost use Rattle.plan.specs.Plans.{start_at, planned_in, placed, plan_as, Begins
 use act::{Desk, Start};
 use room::MOST_ROOMS;
 use rules::{Event, Kind};
+use std::marker::Model;
 use table::{Refusal, Table, WIRES};
 
 // An ASK is refused from this many messages on the wires,
@@ -24,6 +25,17 @@ pub struct Plan {
     pub me: u8,
     pub taken: Option<usize>,
     pub done: Desk,
+}
+
+// A plan says no more than its fields: the model is there so that it is copied as each of them is, a desk, which has a model, too.
+impl Model for Plan {
+    ghost use Rattle.plan.specs.Plans.{Making};
+
+    ghost Value = { Making };
+
+    ghost view = { λ p. record { me = p.me; taken = p.taken; done = p.done } };
+
+    ghost inverse = { λ p. record { me = p.me; taken = p.taken; done = p.done } };
 }
 
 // Room x before it acts, and the queue.

@@ -24,8 +24,7 @@ use Rattle.table.proofs.Known.{wires-long, number-some}
 use Rattle.table.specs.Formed.{well_formed}
 use Rattle.rules.specs.declared.Event.{Event}
 use Rattle.rules.specs.Step.{step_of}
-use Rattle.plan.specs.declared.Plan.{Plan}
-use Rattle.plan.specs.Plans.{Planned, placed, plan_as, planned_in, refused_plan}
+use Rattle.plan.specs.Plans.{Making, Planned, placed, plan_as, planned_in, refused_plan}
 use Rattle.step.specs.Writes.{left, Takes, Sized, Fits, written_of, ending_of, ends_in, step_as}
 use Rattle.step.proofs.Known.{shaped}
 use Rattle.step.proofs.Outcomes.{outcome-worn, outcome-full, outcome-done, ending-own, ending-worn, ending-full, ending-done}
@@ -129,7 +128,7 @@ module _ (t : Table) {vs : List Val} (g : Is tables.the_row t vs) (e : Event) (f
       ∙ made.step
 
 -- The refusals, from what the calls give: of the plan itself,
-module _ (t : Table) (long : length t.wires ≡ wire_limit) (e : Event) (formed : Bool) (r : Result Plan Refusal)
+module _ (t : Table) (long : length t.wires ≡ wire_limit) (e : Event) (formed : Bool) (r : Result Making Refusal)
     (q : planned_in r ≡ plan_as (formed && placed t) t e) (why : Refusal) (h : r ≡ Err why) where
   some : number_of why ≡ 0 → ⊥
   some = number-some why

@@ -1,10 +1,8 @@
 -- A message taken out of an array and others put behind: what the copies leave is the list that the rules give.
 use Rattle.std.specs.List.{copy_within}
-use Rattle.std.proofs.Common.{◌≡◌, ℕ, zero, suc, ◌+◌, ◌-◌, ◌<◌, ◌≤◌, List, [], ◌∷◌, ◌++◌, length, get_or, set, take, drop, refl, sym, ◌∙◌, ap, arith, add-one, append-nil, append_assoc, length-append, length-take-le, drop-cons, Option, Some, None, IfSome}
-use Rattle.std.proofs.lemmas.List.{take_at, drop_at, take-take, drop-drop, length-replicate, take-append-drop}
-use Rattle.std.proofs.lemmas.Slice.{between_is}
+use Rattle.std.proofs.Common.{◌≡◌, ℕ, zero, suc, ◌+◌, ◌-◌, ◌<◌, ◌≤◌, List, [], ◌∷◌, ◌++◌, length, set, take, drop, refl, sym, ◌∙◌, ap, arith, append-nil, append_assoc, length-append, length-take-le, Option, Some, None, IfSome}
+use Rattle.std.proofs.lemmas.List.{take_at, drop_at, drop-drop, length-replicate, take-append-drop}
 use Rattle.std.proofs.Math.ListN.{replicate}
-use Rattle.std.proofs.Math.Seq.{set_at}
 use borrow.Rule.Slice.PartMut.{put_mid}
 use Rattle.base.specs.Arrays.{padded}
 use Rattle.base.specs.Lists.{remove, length-remove}
