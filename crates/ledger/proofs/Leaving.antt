@@ -106,11 +106,11 @@ module _ (n : ℕ) (old new : ℕ → Room) (messages : List Wire) (me : ℕ) (l
   granted-both j l e here =
       leaving-both
       (λ b. (
-        ledger-grant n old new messages me others ledger k a other m o small b j l e here,
+        ledger-grant n old new messages me others ledger k a other m o small b j l e (here ∙ named (old me)),
         links-grant n old new messages me others links k a m o alone j l e (here ∙ named (old me)) other there,
       ))
       (λ b. (
-        ledger-grant n paid new (messages ++ (reduce ∷ [])) me new-other (pay-ledger b) k a other m later small (inl (ap (λ (r : Room). r.lender) paid-me)) j l e now,
+        ledger-grant n paid new (messages ++ (reduce ∷ [])) me new-other (pay-ledger b) k a other m later small (inl (ap (λ (r : Room). r.lender) paid-me)) j l e (now ∙ named (paid me)),
         links-grant n paid new (messages ++ (reduce ∷ [])) me new-other (pay-links b) k a m later alone-paid j l e (now ∙ named (paid me)) other (Memᴰ.append_left (reduce ∷ []) there),
       ))
     where

@@ -11,9 +11,9 @@ use Rattle.std.specs.Prelude.{Some, None}
 use Rattle.room.specs.declared.Room.{Room}
 use Rattle.room.specs.declared.Entry.{Entry}
 use Rattle.room.specs.Limits.{room_limit}
-use Rattle.room.specs.Record.{no_entry, entry_of, entry_at, with_modes, with_debt}
+use Rattle.room.specs.Record.{no_entry, entry_of, entry_at, with_modes, with_debt, lender_in}
 use Rattle.room.specs.Rules.{tokened_by, reduced}
-use Rattle.room.proofs.Lenders.{nobody-lends}
+use Rattle.room.proofs.Lenders.{nobody-lends, lender-named, lender-within}
 use Rattle.table.specs.declared.Wire.{Wire}
 use Rattle.table.specs.declared.Message.{Message}
 use Rattle.table.specs.declared.Message.TheVariants as msg
@@ -54,7 +54,7 @@ module _ (n : ℕ) (old new : ℕ → Room) (messages : List Wire) (me : ℕ) (o
     (ledger : Ledger n old messages) (k a : ℕ) (other : a ≢ me) (m : Message) (o : Oldest messages k a me m) where
   -- the entry and the debt of the two rooms have taken it in, and no other has changed
   taken : ((e : Entry) → e ≡ entry_at (old me) a → flush e m ≡ entry_at (new me) a) → ((c : ℕ) → c ≢ a → entry_at (new me) c ≡ entry_at (old me) c)
-      → folds (arriving owe a me) (debt (new me) a) (remove k messages) ≡ owed old messages a me
+      → (a < n → folds (arriving owe a me) (debt (new me) a) (remove k messages) ≡ owed old messages a me)
       → ((p : ℕ) → p < n → p ≢ a → debt (new me) p ≡ debt (old me) p) → Ledger n new (remove k messages)
   taken entry entries lent debts p c lp lc ne = go (same? p me) (same? c me) (same? c a) (same? p a)
     where
@@ -73,7 +73,7 @@ module _ (n : ℕ) (old new : ℕ → Room) (messages : List Wire) (me : ℕ) (o
       go (inr x) (inl z) f (inl g) =
           rw (z, g)
           (gone-other messages k a me m o flush me a (inl other) (entry_at (new a) me)
-          ∙ ap (λ (r : Room). folds (arriving flush me a) (entry_at r me) messages) (others a other) ∙ ledger a me (rw g at lp) (rw z at lc) other ∙ sym lent)
+          ∙ ap (λ (r : Room). folds (arriving flush me a) (entry_at r me) messages) (others a other) ∙ ledger a me (rw g at lp) (rw z at lc) other ∙ sym (lent (rw g at lp)))
       go (inr x) (inl z) f (inr g) =
           gone-other messages k a me m o flush c p (inr (λ e. x (sym e))) (entry_at (new p) c)
           ∙ ap (λ (r : Room). folds (arriving flush c p) (entry_at r c) messages) (others p x) ∙ ledger p c lp lc ne
@@ -94,7 +94,7 @@ module _ (n : ℕ) (old new : ℕ → Room) (messages : List Wire) (me : ℕ) (o
       (λ v q. rw (q, e, here) entry)
       (λ c f. rw here (reduced-either (old me) a l j (λ (r : Room). entry_at r c ≡ entry_at (old me) c)
       (λ e. get_or-set_other (old me).entries a c (entry_of j l) no_entry f) (λ e. refl)))
-      (rw here (reduced-either (old me) a l j (λ (r : Room). folds (arriving owe a me) (debt r a) (remove k messages) ≡ owed old messages a me) (λ e. keep) (λ e. keep)))
+      (λ near. rw here (reduced-either (old me) a l j (λ (r : Room). folds (arriving owe a me) (debt r a) (remove k messages) ≡ owed old messages a me) (λ e. keep) (λ e. keep)))
       (λ p lp f. rw here (reduced-either (old me) a l j (λ (r : Room). debt r p ≡ debt (old me) p) (λ e. refl) (λ e. refl)))
     where
       keep : folds (arriving owe a me) (debt (old me) a) (remove k messages) ≡ owed old messages a me
@@ -111,15 +111,15 @@ module _ (n : ℕ) (old new : ℕ → Room) (messages : List Wire) (me : ℕ) (o
     debt-old p l f = debt-none (old me) p (λ e. ⊎_elim (λ z. nobody-lends z e) (λ z. f (same_Some p a (sym e ∙ z))) owing)
 
     -- "GRANT: .. Then lender a, the new link number, credit and held the mode, wanted none."
-    pub ledger-grant : (j l : ℕ) → m ≡ msg.Grant j l → new me ≡ with_debt (with_modes (old me) j 0) (Some a) j l → Taken
+    pub ledger-grant : (j l : ℕ) → m ≡ msg.Grant j l → new me ≡ with_debt (with_modes (old me) j 0) (lender_in a) j l → Taken
     unfolding flush owe
     ledger-grant j l e here =
         taken
         (λ v q. rw (q, e, here) refl)
         (λ c f. rw here refl)
-        (ap (λ (v : Entry). folds (arriving owe a me) v (remove k messages)) (rw here (debt-here (with_debt (with_modes (old me) j 0) (Some a) j l) a refl) ∙ sym (says (debt (old me) a)))
+        (λ near. ap (λ (v : Entry). folds (arriving owe a me) v (remove k messages)) (rw here (debt-here (with_debt (with_modes (old me) j 0) (lender_in a) j l) a (lender-within a n near small)) ∙ sym (says (debt (old me) a)))
         ∙ gone-first messages k a me m o owe (debt (old me) a))
-        (λ p lp f. rw here (debt-none (with_debt (with_modes (old me) j 0) (Some a) j l) p (λ z. f (sym (same_Some a p z)))) ∙ sym (debt-old p lp f))
+        (λ p lp f. rw here (debt-none (with_debt (with_modes (old me) j 0) (lender_in a) j l) p (λ z. f (lender-named a p z))) ∙ sym (debt-old p lp f))
       where
         says : (v : Entry) → owe v m ≡ record { mode = j; link = l }
         says v = rw e refl
@@ -131,7 +131,7 @@ module _ (n : ℕ) (old new : ℕ → Room) (messages : List Wire) (me : ℕ) (o
         taken
         (λ v q. rw (e, here) (sym (get_or-set_same (old me).entries a (entry_of rest l) no_entry place)))
         (λ c f. rw here (get_or-set_other (old me).entries a c (entry_of rest l) no_entry f))
-        (ap (λ (v : Entry). folds (arriving owe a me) v (remove k messages)) (free a low ∙ sym (says (debt (old me) a)))
+        (λ near. ap (λ (v : Entry). folds (arriving owe a me) v (remove k messages)) (free a low ∙ sym (says (debt (old me) a)))
         ∙ gone-first messages k a me m o owe (debt (old me) a))
         (λ p lp f. free p lp ∙ sym (debt-old p lp f))
       where
